@@ -1,0 +1,5 @@
+-- The definitions that the contracts of `token` cite.
+pub mod Bytes
+pub mod Token
+pub mod Write
+pub mod Laws
