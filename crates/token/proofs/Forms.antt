@@ -27,6 +27,10 @@ tiny-length v h = rw (enc-tiny v h)
 pub short-length : (v : ℕ) → 64 ≤ v → length (encInt v) ≡ sizeOf v + 1
 short-length v h = rw (enc-short v h) (omega (arith, be-length (sizeOf v) v))
 
+-- it takes a byte at least
+pub int-some : (v : ℕ) → 0 < length (encInt v)
+int-some v = ⊎-elim (λ (h : v < 64). omega (arith, tiny-length v h)) (λ (h : 64 ≤ v). omega (arith, short-length v h)) (lt-or-le v 64)
+
 pub tiny-over : (d : List ℕ) (at v : ℕ) → v < 64 → at < length d → set d at v ≡ over d at (encInt v)
 tiny-over d at v h k = rw (enc-tiny v h) (over-sets d (v ∷ []) at (omega arith))
 
@@ -34,7 +38,7 @@ pub short-over : (d last : List ℕ) (at v n : ℕ) → 64 ≤ v → n ≡ sizeO
 short-over d last at v n h e k q = rw (enc-short v h, ← e) (q ∙ over-more d (beOf n v) at (0x80 + n) k)
 
 -- the size is from 1 to 8, enough for a number of 64 bits, and never more than is needed
-abbrev Sized : ℕ → ℕ → Type 0
+abbrev pub Sized : ℕ → ℕ → Type 0
 Sized v k = (1 ≤ k) × (k ≤ 8) × (v < 2 ^ 64 → v < 256 ^ k) × ((n : ℕ) → 1 ≤ n → v < 256 ^ n → k ≤ n)
 
 -- a number that m bytes do not hold has more than m of them
@@ -65,9 +69,9 @@ pub head-two : (n : ℕ) → 16 ≤ n → n < 2048 → headOf n ≡ (0xd0 + n / 
 unfolding headOf
 head-two n h k = simp (le-ltb n 16 h, lt-ltb n 2048 k)
 
-pub head-four : (n : ℕ) → 16 ≤ n → 2048 ≤ n → headOf n ≡ 0xe2 ∷ (n / 65536) ∷ (n / 256 % 256) ∷ (n % 256) ∷ []
+pub head-four : (n : ℕ) → 2048 ≤ n → headOf n ≡ 0xe2 ∷ (n / 65536) ∷ (n / 256 % 256) ∷ (n % 256) ∷ []
 unfolding headOf
-head-four n h k = simp (le-ltb n 16 h, le-ltb n 2048 k)
+head-four n h = simp (le-ltb n 16 (omega arith), le-ltb n 2048 h)
 
 pub len-one : (n : ℕ) → n < 16 → length (headOf n) ≡ 1
 len-one n h = rw (head-one n h)
@@ -75,8 +79,18 @@ len-one n h = rw (head-one n h)
 pub len-two : (n : ℕ) → 16 ≤ n → n < 2048 → length (headOf n) ≡ 2
 len-two n h k = rw (head-two n h k)
 
-pub len-four : (n : ℕ) → 16 ≤ n → 2048 ≤ n → length (headOf n) ≡ 4
-len-four n h k = rw (head-four n h k)
+pub len-four : (n : ℕ) → 2048 ≤ n → length (headOf n) ≡ 4
+len-four n h = rw (head-four n h)
+
+-- a length below 2048 needs no more than two bytes, and none needs more than four
+pub head-some : (n : ℕ) → (0 < length (headOf n)) × (n < 2048 → length (headOf n) ≤ 2) × (length (headOf n) ≤ 4)
+head-some n = ⊎-elim
+    (λ (h : n < 16). let e = len-one n h in (omega arith, λ _. omega arith, omega arith))
+    (λ (h : 16 ≤ n). ⊎-elim
+    (λ (k : n < 2048). let e = len-two n h k in (omega arith, λ _. omega arith, omega arith))
+    (λ (k : 2048 ≤ n). let e = len-four n k in (omega arith, λ (l : n < 2048). absurd (omega arith), omega arith))
+    (lt-or-le n 2048))
+    (lt-or-le n 16)
 
 -- ---- bytes behind what stands before them
 pub bytes-length : (bs : List ℕ) → length (encBytes bs) ≡ length (headOf (length bs)) + length bs

@@ -22,24 +22,15 @@ use Rattle.token.proofs.Laws.{lt-or-le}
 use Rattle.token.proofs.Tokens.{token-none}
 use Rattle.token.proofs.Ahead.{Small, be-small}
 use Rattle.token.proofs.Writes.{cond-all}
-use Rattle.token.proofs.Forms.{sized, tiny-length, short-length, len-one, len-two, len-four, bytes-length}
+use Rattle.token.proofs.Forms.{sized, tiny-length, short-length, len-one, head-some, bytes-length}
 use Rattle.token.proofs.Round.{range}
 
 -- ---- how long the writer's form is at most
-int-least : (v n : ℕ) → 1 ≤ n → v < 256 ^ n → length (encInt v) ≤ n + 1
+pub int-least : (v n : ℕ) → 1 ≤ n → v < 256 ^ n → length (encInt v) ≤ n + 1
 int-least v n h k = ⊎-elim
     (λ (l : v < 64). omega (arith, tiny-length v l))
     (λ (l : 64 ≤ v). omega (arith, short-length v l, sized v .3 n h k))
     (lt-or-le v 64)
-
-head-two-least : (n : ℕ) → n < 2048 → length (headOf n) ≤ 2
-head-two-least n h = ⊎-elim (λ (l : n < 16). omega (arith, len-one n l)) (λ (l : 16 ≤ n). omega (arith, len-two n l h)) (lt-or-le n 16)
-
-head-least : (n : ℕ) → length (headOf n) ≤ 4
-head-least n = ⊎-elim
-    (λ (l : n < 2048). omega (arith, head-two-least n l))
-    (λ (l : 2048 ≤ n). omega (arith, len-four n (omega arith) l))
-    (lt-or-le n 2048)
 
 -- ---- what the first byte holds
 abbrev Holds : ℕ → Lead → Type 0
@@ -76,15 +67,16 @@ wider p p′ n n′ (K.Control c q) h k a = (omega arith, omega arith)
 wider p p′ n n′ K.End h k a = tt
 wider p p′ n n′ K.Broken h k a = tt
 
-atom-spans : (p₀ p : ℕ) (k : Bool) (n : ℕ) (l : List ℕ) → p₀ < p → p₀ + length (headOf n) ≤ p → Small l → Spans p₀ (p + length l) (atomOf k n p l)
+atom-spans : (p₀ p : ℕ) (k : Bool) (n : ℕ) (l : List ℕ) → p₀ + length (headOf n) ≤ p → Small l → Spans p₀ (p + length l) (atomOf k n p l)
 unfolding atomOf
-atom-spans p₀ p true n l h u s =
+atom-spans p₀ p true n l u s =
     cond-all (Spans p₀ (p + length l)) (leb n (length l)) (K.Bytes p n (p + n)) K.Broken (λ e. let f = leb-true n (length l) e in (omega arith, omega arith, refl)) (λ _. tt)
-atom-spans p₀ p false n l h u s = go (within 1 8 n) (leb n (length l)) refl refl
+atom-spans p₀ p false n l u s = go (within 1 8 n) (leb n (length l)) refl refl
   where
     go : (t w : Bool) → within 1 8 n ≡ t → leb n (length l) ≡ w → Spans p₀ (p + length l) (cond (t && w) (K.Int (beVal 0 (take n l)) (p + n)) K.Broken)
     go true true d e =
         let f = leb-true n (length l) e in
+        let g = head-some n .0 in
         let i = int-least (beVal 0 (take n l)) n (range 1 8 n d .0) (be-small n l 0 0 n s (lit< tt) (omega arith)) in
         (omega arith, omega arith)
     go true false d e = tt
@@ -94,18 +86,18 @@ form-spans : (p : ℕ) (k : Lead) (b : ℕ) (l : List ℕ) (t : Token) → Holds
 unfolding formOf mediumOf longOf
 form-spans p L.Tiny b l t h s a = (omega (arith, tiny-length b h), omega arith)
 form-spans p (L.Short k n) b l t h s a =
-    wider p p _ _ (atomOf k n (p + 1) l) (omega arith) (omega arith) (atom-spans p (p + 1) k n l (omega arith) (omega (arith, len-one n h)) s)
+    wider p p _ _ (atomOf k n (p + 1) l) (omega arith) (omega arith) (atom-spans p (p + 1) k n l (omega (arith, len-one n h)) s)
 form-spans p (L.Medium k g) b [] t h s a = tt
 form-spans p (L.Medium k g) b (x ∷ l) t h s a =
     let n : ℕ = g * 256 + x in
     let u : n < 2048 = omega (arith, s 0) in
-    wider p p _ _ (atomOf k n (p + 1 + 1) l) (omega arith) (omega arith) (atom-spans p (p + 1 + 1) k n l (omega arith) (omega (arith, head-two-least n u)) (λ i. s (suc i)))
+    wider p p _ _ (atomOf k n (p + 1 + 1) l) (omega arith) (omega arith) (atom-spans p (p + 1 + 1) k n l (omega (arith, head-some n .1 u)) (λ i. s (suc i)))
 form-spans p (L.Long k) b [] t h s a = tt
 form-spans p (L.Long k) b (x ∷ []) t h s a = tt
 form-spans p (L.Long k) b (x ∷ y ∷ []) t h s a = tt
 form-spans p (L.Long k) b (x ∷ y ∷ z ∷ l) t h s a =
     let n : ℕ = x * 65536 + y * 256 + z in
-    wider p p _ _ (atomOf k n (p + 1 + 3) l) (omega arith) (omega arith) (atom-spans p (p + 1 + 3) k n l (omega arith) (omega (arith, head-least n)) (λ i. s (suc (suc (suc i)))))
+    wider p p _ _ (atomOf k n (p + 1 + 3) l) (omega arith) (omega arith) (atom-spans p (p + 1 + 3) k n l (omega (arith, head-some n .2)) (λ i. s (suc (suc (suc i)))))
 form-spans p L.Control b l t h s a = (omega arith, omega arith)
 form-spans p L.Empty b l t h s a = wider p (p + 1) _ _ t (omega arith) (omega arith) a
 form-spans p L.Broken b l t h s a = tt

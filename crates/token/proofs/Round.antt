@@ -77,7 +77,7 @@ read-int v p r h = ⊎-elim
 read-head : (n p : ℕ) (r : List ℕ) → tokenOf p (headOf n ++ r) ≡ atomOf true n (p + length (headOf n)) r
 read-head n p r = ⊎-elim
     (λ (k : n < 16). rw (head-one n k) (one k))
-    (λ (k : 16 ≤ n). ⊎-elim (λ (l : n < 2048). rw (head-two n k l) (two l)) (λ (l : 2048 ≤ n). rw (head-four n k l) four) (lt-or-le n 2048))
+    (λ (k : 16 ≤ n). ⊎-elim (λ (l : n < 2048). rw (head-two n k l) (two l)) (λ (l : 2048 ≤ n). rw (head-four n l) four) (lt-or-le n 2048))
     (lt-or-le n 16)
   where
     one : n < 16 → tokenOf p ((0xa0 + n) ∷ r) ≡ atomOf true n (p + 1) r

@@ -2,7 +2,7 @@
 ghost use mathlib.Core.Path.{_≡_};
 ghost use mathlib.Core.Bool.{true, false};
 ghost use mathlib.Core.List.{[], _∷_};
-ghost use Prim.Native.Nat.{ℕ, _+_, _*_, _<_, _≤_};
+ghost use Prim.Native.Nat.{_+_, _*_, _<_, _≤_};
 ghost use lib.ListN.{length, drop, take};
 ghost use lib.Dec.{ltb};
 ghost use Rattle.token.specs.Bytes.{beVal, numberAt, beOf, over};
@@ -227,7 +227,7 @@ fn size(v: u64) -> usize
 pub fn int_len(v: u64) -> usize
     ensures { λ r. ⌜ (r ≡ length (encInt v)) × (1 ≤ r) × (r ≤ 9) ⌝ }
 {
-    if v < 64 {
+    if v < 0x40 {
         return 1;
     }
     size(v) + 1
@@ -300,11 +300,11 @@ fn head(buf: &mut [u8], at: usize, n: usize)
     requires { ⌜ (n < maxBytes) × (at + length (headOf n) ≤ length (now buf)) ⌝ }
     ensures { λ _. ⌜ now (buf .exit) ≡ over (now (buf .entry)) at (headOf n) ⌝ }
 {
-    if n < 16 {
+    if n < 0x10 {
         buf[at] = 0xa0 + n as u8;
         return;
     }
-    if n < 2048 {
+    if n < 0x800 {
         buf[at] = 0xd0 + (n / 256) as u8;
         buf[at + 1] = (n % 256) as u8;
         return;

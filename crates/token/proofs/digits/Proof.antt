@@ -28,7 +28,7 @@ sub-j : tie.Need-sub-j Inv-loop μ-loop
 sub-j c = search needs
 
 cast-buf : tie.Need-cast-buf Inv-loop μ-loop
-cast-buf c = record { fits = mod-lt (c .before .loop .w) {m = 256} (lit< tt) }
+cast-buf c = record { fits = mod-lt _ {m = 256} (lit< tt) }
 
 add-buf : tie.Need-add-buf Inv-loop μ-loop
 add-buf c = search needs

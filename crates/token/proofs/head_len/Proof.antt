@@ -6,13 +6,13 @@ use Rattle.token.proofs.head_len.Statement.{statement}
 use Rattle.token.proofs.head_len.Tie as tie
 
 returns : tie.Need-returns
-returns c = (sym (len-one (c .before .args .n) (c .if1 .taken)), omega arith, omega arith)
+returns c = (sym (len-one (c .before .args .n) (omega arith)), omega arith, omega arith)
 
 returns-2 : tie.Need-returns-2
-returns-2 c = (sym (len-two (c .before .before .args .n) (c .before .if1 .left) (c .if2 .taken)), omega arith, omega arith)
+returns-2 c = (sym (len-two (c .before .before .args .n) (omega arith) (omega arith)), omega arith, omega arith)
 
 returns-3 : tie.Need-returns-3
-returns-3 c = (sym (len-four (c .before .before .args .n) (c .before .if1 .left) (c .if2 .left)), omega arith, omega arith)
+returns-3 c = (sym (len-four (c .before .before .args .n) (omega arith)), omega arith, omega arith)
 
 pub head-len-spec : {M : Type 1} → statement M
 head-len-spec = tie.close (tie.spec returns returns-2 returns-3)

@@ -2,6 +2,7 @@
 use native.Mathlib.Omega.{arith}
 use borrow.Author.Needs.{needs}
 use borrow.Author.Tests.{lt-ltb, le-ltb}
+use lib.ListN.{length}
 use denote.Ref.{now}
 use Rattle.token.specs.Write.{encBytes, maxBytes}
 use Rattle.token.proofs.Writes.{fits, full, outside}
@@ -38,24 +39,23 @@ same-length c = search needs
 
 returns : tie.Need-returns
 returns c = let a = c .before .before .before .before .before .before .before .before .before .before .before .before .before .before .args in
-    let h = c .before .before .before .before .before .before .before .before .before .before .head-len in
     let l = bytes-length (now (a .src)) in
-    fits _ (now (a .buf)) (a .at) (encBytes (now (a .src))) _ _ (lt-ltb _ maxBytes (c .before .before .before .before .before .before .before .before .before .before .before .if1 .taken)) (omega arith) (omega arith)
+    fits _ (now (a .buf)) (a .at) (encBytes (now (a .src))) _ _ (lt-ltb (length (now (a .src))) maxBytes (omega arith)) (omega arith) (omega arith)
     (bytes-over (now (a .buf)) _ _ (now (a .src)) (a .at) _ (c .before .before .before .before .before .before .head .ensures) (c .before .before .copy .ensures) (omega arith) (omega arith))
 
 returns-2 : tie.Need-returns-2
 returns-2 c = let a = c .before .before .before .before .before .before .args in
     let l = bytes-length (now (a .src)) in
-    full _ (now (a .buf)) (a .at) (encBytes (now (a .src))) (lt-ltb _ maxBytes (c .before .before .before .if1 .taken)) (omega arith)
+    full _ (now (a .buf)) (a .at) (encBytes (now (a .src))) (lt-ltb (length (now (a .src))) maxBytes (omega arith)) (omega arith)
 
 returns-3 : tie.Need-returns-3
 returns-3 c = let a = c .before .before .before .before .before .args in
     let l = bytes-length (now (a .src)) in
-    full _ (now (a .buf)) (a .at) (encBytes (now (a .src))) (lt-ltb _ maxBytes (c .before .before .if1 .taken)) (omega arith)
+    full _ (now (a .buf)) (a .at) (encBytes (now (a .src))) (lt-ltb (length (now (a .src))) maxBytes (omega arith)) (omega arith)
 
 returns-4 : tie.Need-returns-4
 returns-4 c = let a = c .before .before .before .args in
-    outside _ (now (a .buf)) (a .at) (encBytes (now (a .src))) (le-ltb _ maxBytes (c .if1 .left))
+    outside _ (now (a .buf)) (a .at) (encBytes (now (a .src))) (le-ltb (length (now (a .src))) maxBytes (omega arith))
 
 pub put-bytes-spec : {M : Type 1} → statement M
 put-bytes-spec =

@@ -25,12 +25,12 @@ same-length c = search needs
 
 returns : tie.Need-returns
 returns c = let a = c .before .before .before .args in
-    let l = tiny-length (a .v) (c .before .if1 .taken) in
-    fits true (now (a .buf)) (a .at) (encInt (a .v)) _ _ refl (omega arith) (omega arith) (tiny-over (now (a .buf)) (a .at) (a .v) (c .before .if1 .taken) (c .if2 .taken))
+    let l = tiny-length (a .v) (omega arith) in
+    fits true (now (a .buf)) (a .at) (encInt (a .v)) _ _ refl (omega arith) (omega arith) (tiny-over (now (a .buf)) (a .at) (a .v) (omega arith) (omega arith))
 
 returns-2 : tie.Need-returns-2
 returns-2 c = let a = c .before .before .before .args in
-    let l = tiny-length (a .v) (c .before .if1 .taken) in
+    let l = tiny-length (a .v) (omega arith) in
     full true (now (a .buf)) (a .at) (encInt (a .v)) refl (omega arith)
 
 size-requires : tie.Need-size-requires
@@ -68,21 +68,18 @@ same-length-2 c = let a = c .before .before .before .before .before .before .bef
 returns-3 : tie.Need-returns-3
 returns-3 c = let a = c .before .before .before .before .before .before .before .before .before .args in
     let z = c .before .before .before .before .before .before .size in
-    let h = c .before .before .before .before .before .before .before .if1 .left in
-    let l = short-length (a .v) h in
+    let l = short-length (a .v) (omega arith) in
     fits true (now (a .buf)) (a .at) (encInt (a .v)) _ _ refl (omega arith) (omega arith)
-    (short-over (now (a .buf)) _ (a .at) (a .v) (z .result) h (z .ensures .0) (omega arith) (c .before .before .digits .ensures))
+    (short-over (now (a .buf)) _ (a .at) (a .v) (z .result) (omega arith) (z .ensures .0) (omega arith) (c .before .before .digits .ensures))
 
 returns-4 : tie.Need-returns-4
 returns-4 c = let a = c .before .before .before .before .before .args in
-    let z = c .before .before .size in
-    let l = short-length (a .v) (c .before .before .before .if1 .left) in
+    let l = short-length (a .v) (omega arith) in
     full true (now (a .buf)) (a .at) (encInt (a .v)) refl (omega arith)
 
 returns-5 : tie.Need-returns-5
 returns-5 c = let a = c .before .before .before .before .args in
-    let z = c .before .size in
-    let l = short-length (a .v) (c .before .before .if1 .left) in
+    let l = short-length (a .v) (omega arith) in
     full true (now (a .buf)) (a .at) (encInt (a .v)) refl (omega arith)
 
 pub put-int-spec : {M : Type 1} → statement M

@@ -1,0 +1,2 @@
+-- The laws that the proofs of `bench` cite.
+pub mod Figured

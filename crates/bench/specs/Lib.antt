@@ -1,0 +1,2 @@
+-- The definitions that the contract of `bench` cites.
+pub mod Figures

@@ -1,0 +1,3 @@
+-- The definitions that the contracts of `packet` cite.
+pub mod Envelope
+pub mod Laws

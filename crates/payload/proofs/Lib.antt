@@ -1,0 +1,3 @@
+pub mod Steps
+pub mod Tokens
+pub mod Worked

@@ -1,0 +1,3 @@
+-- The definitions that the contracts of `payload` cite.
+pub mod Payload
+pub mod After

@@ -1,0 +1,10 @@
+pub mod Outs
+pub mod Tokens
+pub mod Nodes
+pub mod Held
+pub mod Values
+pub mod Places
+pub mod Sources
+pub mod Inside
+pub mod Moved
+pub mod Skipped
