@@ -1,0 +1,3 @@
+-- The definitions that the contracts of `item` cite.
+pub mod Item
+pub mod Laws

@@ -1,0 +1,5 @@
+-- The definitions that the contracts of `params` cite.
+pub mod Names
+pub mod Columns
+pub mod Params
+pub mod Steps
