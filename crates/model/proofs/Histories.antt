@@ -1,0 +1,32 @@
+-- The worked histories, computed.
+use mathlib.Core.Path.{_≡_, refl}
+use Rattle.token.specs.Bytes.{within, beVal, numberAt, beOf}
+use Rattle.token.specs.Token.{leadOf, atomOf, mediumOf, longOf, formOf, tokenOf, isControl}
+use Rattle.token.specs.Write.{encInt, sizeOf, headOf, encBytes}
+use Rattle.value.specs.Read.{then, endOf, markOf, atomIs, endOr, valuesBy, listBy, namedBy, nestBy, valueOf, valueBy}
+use Rattle.packet.specs.Envelope.{packetOf, header, padOf, sealed, openedOf}
+use Rattle.payload.specs.Payload.{uidIs, intIs, listIs, statusAt, callAt, finishIs, startsBy, isEnd, lastOf}
+use Rattle.ranges.specs.Decides.{all}
+use Rattle.ranges.specs.Fit.{fitB}
+use Rattle.ranges.specs.Set.{setOk, editedRow, numberOf, flagOf, keeps}
+use Rattle.ranges.specs.Reset.{resetRows, resetMbr}
+use Rattle.tape.specs.Write.{encAtom, encValue, encValues}
+use Rattle.item.specs.Item.{slotOf}
+use Rattle.params.specs.Names.{names, inner, optional, beyond, nothing, given, isInt, isBytes, isUid, orLeftOut, intOf, uidOf}
+use Rattle.params.specs.Columns.{free, good, putColumn, putItem, putItems}
+use Rattle.params.specs.Params.{startFrom, startOf, blockOf, blockIn, getOf, columnsIn, valuesIn, setOf, proofFrom, proofOf, resetsOf}
+use Rattle.model.specs.Sound.{sound, tablesOk, triesOk, sessionOk, secretOk, secretsOk, blankRow, blankMbr, blankTables, blankSecrets, undoOk}
+use Rattle.model.specs.Uids.{methodOf, objectIn, whoIn}
+use Rattle.model.specs.Uids as U
+use Rattle.model.specs.Access.{kindOf, accessRows, anyProved, holds, selfOf, someRow, lastColumn}
+use Rattle.model.specs.Judge.{need, placeOf, countOf, judgeWho, known, signer, judgeStart, judgeManager, judgeProof, boundOf, judgeGet, isNumber, numberIn, isFlag, flagIn, allowedSet, withProgram, isResets, resetsIn, isPin, pinChange, flagChange, valuesOk, changeIn, judgeSet, judgeBare, revertOf, activateOn, judgeMethod}
+use Rattle.model.specs.Vault.{same, decided, obeyChange, obey}
+use Rattle.model.specs.Apply.{proving, cleared, change, apply}
+use Rattle.model.specs.Answer.{statusNumber, cellPast0, told, answer}
+use Rattle.model.specs.Step.{hearManager, judgeSession, hearPacket, heard, broke, replyTo, power, reset, media, next}
+use Rattle.model.specs.Seen.{sees, trace}
+use Rattle.model.specs.Worked.{Worked}
+
+pub worked : Worked
+unfolding within beVal numberAt beOf leadOf atomOf mediumOf longOf formOf tokenOf isControl encInt sizeOf headOf encBytes then endOf markOf atomIs endOr valuesBy listBy namedBy nestBy valueOf valueBy packetOf header padOf sealed openedOf uidIs intIs listIs statusAt callAt finishIs startsBy isEnd lastOf all fitB setOk editedRow numberOf flagOf keeps resetRows resetMbr encAtom encValue encValues slotOf names inner optional beyond nothing given isInt isBytes isUid orLeftOut intOf uidOf free good putColumn putItem putItems startFrom startOf blockOf blockIn getOf columnsIn valuesIn setOf proofFrom proofOf resetsOf sound tablesOk triesOk sessionOk secretOk secretsOk blankRow blankMbr blankTables blankSecrets undoOk methodOf objectIn whoIn U.uidOf kindOf accessRows anyProved holds selfOf someRow lastColumn need placeOf countOf judgeWho known signer judgeStart judgeManager judgeProof boundOf judgeGet isNumber numberIn isFlag flagIn allowedSet withProgram isResets resetsIn isPin pinChange flagChange valuesOk changeIn judgeSet judgeBare revertOf activateOn judgeMethod same decided obeyChange obey proving cleared change apply statusNumber cellPast0 told answer hearManager judgeSession hearPacket heard broke replyTo power reset media next sees trace
+worked = record { session = refl; ownership = refl; lockout = refl; reading = refl }

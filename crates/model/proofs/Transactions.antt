@@ -1,0 +1,247 @@
+-- A transaction keeps the tables and PINs from before it until it ends: an abandon puts them back, a commit does not, and before it nothing shows.
+use Prim.Native.Nat.{ℕ}
+use mathlib.Core.Path.{_≡_, refl, sym, _∙_, ap}
+use mathlib.Core.Bool.{Bool, true, false, not, cond, true≢false}
+use mathlib.Core.List.{List, [], _∷_}
+use mathlib.Core.Logic.{_≢_, _⊎_, inl, inr}
+use native.Mathlib.Omega.{arith}
+use native.Mathlib.Decide.{ℕ-discrete}
+use Rattle.model.specs.Types.{Undo, Secret, Card, Who, Change, Decision}
+use Rattle.model.specs.declared.Who.the-variants as W
+use Rattle.model.specs.declared.Change.the-variants as C
+use Rattle.model.specs.declared.Decision.the-variants as D
+use Rattle.model.specs.Sound.{sound}
+use Rattle.model.specs.Vault.{givenUp, obeyChange, obey}
+use Rattle.model.specs.Apply.{settledTables, cleared, change, apply, relocked, tperReset, powerCycle}
+use Rattle.model.specs.Step.{after, resetTo, power, reset, media, Event, packet, powered, wasReset, asked, next, run}
+use Rattle.model.specs.Seen.{Taken, nothing, took, taken}
+use Rattle.model.specs.Laws.{Abandons, Commits, Leaves, Inside, Transaction, within, PutBack, AbandonPutsBack, CommitKeeps, NothingShows}
+use Rattle.model.proofs.TurnedAway.{reset-keeps}
+use Rattle.model.proofs.Moves.{rests, moves, number-of}
+use Rattle.model.proofs.Decisions.{Fits, decision-fits}
+
+-- what a transaction keeps, and the disk's size
+abbrev held : Card → Undo × List Secret × ℕ
+held k = (k .cells .undo, k .vault .kept, k .cells .n)
+
+-- within a transaction that began at j
+record In (j k : Card) : Type 0 where
+  live : k .cells .undo .live ≡ true
+  tables : k .cells .undo .was ≡ j .cells .tables
+  pins : k .vault .kept ≡ j .vault .live
+  size : k .cells .n ≡ j .cells .n
+
+-- ---- nothing that does not end it touches that
+by-change : (k : Card) (s : List ℕ) (x : Change) → held (after k s (D.Done x)) ≡ held k
+unfolding apply obey change obeyChange
+by-change k s C.Nothing = refl
+by-change k s (C.PutPin r p n) = refl
+by-change k s (C.PutEnabled r on) = refl
+by-change k s (C.PutRange r e) = refl
+by-change k s (C.PutMbr e) = refl
+by-change k s (C.PutResettable on) = refl
+by-change k s C.Activate = refl
+by-change k s C.RevertLocking = refl
+by-change k s C.RevertAdmin = refl
+by-change k s C.RevertSp = refl
+
+cleared-held : (k : Card) (w : Who) → (cleared (k .cells) w .undo, k .vault .kept, cleared (k .cells) w .n) ≡ held k
+unfolding cleared
+cleared-held k W.Unknown = refl
+cleared-held k W.Anybody = refl
+cleared-held k W.Class = refl
+cleared-held k (W.Row r) = refl
+
+abbrev Dies : Decision → Type 0
+Dies d = (d ≡ D.Abandoned) ⊎ ((d ≡ D.Ended) ⊎ (d ≡ D.Broke))
+
+by-decision : (k : Card) (s : List ℕ) (d : Decision) → Fits (k .cells) d → k .cells .undo .live ≡ true → (d ≢ D.Committed) → (Dies d → ⊥)
+    → held (after k s d) ≡ held k
+unfolding apply obey
+by-decision k s (D.Refuse x) f o m n = refl
+by-decision k s (D.NotStarted x) f o m n = refl
+by-decision k s (D.Missed r) f o m n = refl
+by-decision k s (D.Started locking hsn w) f o m n = cleared-held k w
+by-decision k s D.Denied f o m n = refl
+by-decision k s (D.Mistaken r) f o m n = refl
+by-decision k s (D.Proved w) f o m n = cleared-held k w
+by-decision k s (D.Told x first last) f o m n = refl
+by-decision k s (D.Done x) f o m n = by-change k s x
+by-decision k s D.Began f o m n = absurd (true≢false (sym o ∙ f))
+by-decision k s D.BeganAlready f o m n = refl
+by-decision k s D.Committed f o m n = absurd (m refl)
+by-decision k s D.Abandoned f o m n = absurd (n (inl refl))
+by-decision k s D.NoneOpen f o m n = refl
+by-decision k s D.Ended f o m n = absurd (n (inr (inl refl)))
+by-decision k s D.Broke f o m n = absurd (n (inr (inr refl)))
+
+by-taken : (k : Card) (room : ℕ) (p : List ℕ) (t : Taken) → taken k (packet room p) ≡ t → k .cells .undo .live ≡ true → (Leaves k (packet room p) → ⊥)
+    → held (next k (packet room p)) ≡ held k
+by-taken k room p nothing e o n = ap held (rests k room p e)
+by-taken k room p (took s d) e o n =
+    ap held (moves k (packet room p) s d e)
+    ∙ by-decision k s d (decision-fits k (packet room p) s d e) o
+    (λ c. n (inl (s, e ∙ ap (took s) c)))
+    (λ c. n (inr (inl (s, d, e, c))))
+
+by-number : (k : Card) → Dec (reset k .number ≡ 0) → (Leaves k wasReset → ⊥) → next k wasReset ≡ k
+unfolding next
+by-number k (yes e) n = absurd (n (inr (inr (inr (refl, e)))))
+by-number k (no e) n = reset-keeps k e
+
+by-event : (k : Card) (e : Event) → k .cells .undo .live ≡ true → (Leaves k e → ⊥) → held (next k e) ≡ held k
+unfolding next
+by-event k (packet room p) o n = by-taken k room p (taken k (packet room p)) refl o n
+by-event k powered o n = absurd (n (inr (inr (inl refl))))
+by-event k wasReset o n = ap held (by-number k (ℕ-discrete (reset k .number) 0) n)
+by-event k (asked write start count) o n = refl
+
+still : (j k l : Card) → held l ≡ held k → In j k → In j l
+still j k l e i = record {
+  live = ap (λ h. h .0 .live) e ∙ i .live;
+  tables = ap (λ h. h .0 .was) e ∙ i .tables;
+  pins = ap (λ h. h .1) e ∙ i .pins;
+  size = ap (λ h. h .2) e ∙ i .size;
+}
+
+over-run : (j k : Card) (es : List Event) → In j k → Inside k es → In j (run k es)
+unfolding run
+over-run j k [] i h = i
+over-run j k (e ∷ es) i h = over-run j (next k e) es (still j k (next k e) (by-event k e (i .live) (h .0)) i) (h .1)
+
+at-begin : (k : Card) (s : List ℕ) → In k (after k s D.Began)
+unfolding apply obey
+at-begin k s = record { live = refl; tables = refl; pins = refl; size = refl }
+
+in-it : (k : Card) (e : Event) (es : List Event) → Transaction k e es → In k (within k e es)
+in-it k e es t =
+    let (s, b) = t .begins in
+    over-run k (next k e) es (rw (moves k e s D.Began b) (at-begin k s)) (t .inside)
+
+-- it began where none was open
+none-before : (k : Card) (e : Event) (es : List Event) → Transaction k e es → k .cells .undo .live ≡ false
+none-before k e es t = decision-fits k e (t .begins .0) D.Began (t .begins .1)
+
+-- ---- the tables and PINs that stand when the transaction is given up
+abbrev settledPins : Card → List Secret
+settledPins k = givenUp (k .cells .undo .live) (k .vault) .live
+
+settled-open : (j k : Card) → In j k → (settledTables (k .cells) ≡ j .cells .tables) × (settledPins k ≡ j .vault .live)
+settled-open j k i = (rw (i .live) (i .tables), rw (i .live) (i .pins))
+
+settled-none : (k : Card) → k .cells .undo .live ≡ false → (settledTables (k .cells) ≡ k .cells .tables) × (settledPins k ≡ k .vault .live)
+settled-none k h = (rw h refl, rw h refl)
+
+-- ---- abandon and commit
+at-end : (j k : Card) (s : List ℕ) (d : Decision) → In j k → Dies d → PutBack j (after k s d)
+unfolding apply obey
+at-end j k s d i (inl h) = rw h (record { tables = i .tables; pins = i .pins; closed = refl })
+at-end j k s d i (inr (inl h)) = rw h (record { tables = settled-open j k i .0; pins = settled-open j k i .1; closed = refl })
+at-end j k s d i (inr (inr h)) = rw h (record { tables = settled-open j k i .0; pins = settled-open j k i .1; closed = refl })
+
+at-commit : (k : Card) (s : List ℕ) → PutBack k (after k s D.Committed)
+unfolding apply obey
+at-commit k s = record { tables = refl; pins = refl; closed = refl }
+
+-- with none open the end of the session keeps all, and nothing is abandoned
+at-none : (k : Card) (s : List ℕ) (d : Decision) → k .cells .undo .live ≡ false → Fits (k .cells) d → Dies d → PutBack k (after k s d)
+unfolding apply obey
+at-none k s d o f (inl h) = absurd (true≢false (sym (rw h at f) ∙ o))
+at-none k s d o f (inr (inl h)) = rw h (record { tables = settled-none k o .0; pins = settled-none k o .1; closed = refl })
+at-none k s d o f (inr (inr h)) = rw h (record { tables = settled-none k o .0; pins = settled-none k o .1; closed = refl })
+
+put-back : (j k l : Card) → PutBack j k → PutBack k l → PutBack j l
+put-back j k l p q = record { tables = q .tables ∙ p .tables; pins = q .pins ∙ p .pins; closed = q .closed }
+
+committed : (k : Card) (z : Event) → Commits k z → PutBack k (next k z)
+committed k z c = rw (moves k z (c .0) D.Committed (c .1)) (at-commit k (c .0))
+
+ended-after : (k : Card) (y : Event) → k .cells .undo .live ≡ false → Abandons k y → PutBack k (next k y)
+ended-after k y o a = rw (moves k y (a .0) (a .1) (a .2)) (at-none k (a .0) (a .1) o (decision-fits k y (a .0) (a .1) (a .2)) (a .3))
+
+pub commit-keeps : CommitKeeps
+commit-keeps = record {
+  keeps = λ k e es z t c. committed (within k e es) z c;
+  lasts = λ k e es z y t c a.
+      let p = committed (within k e es) z c in
+      put-back (within k e es) (next (within k e es) z) (next (next (within k e es) z) y) p (ended-after (next (within k e es) z) y (p .closed) a);
+}
+
+abandoned : (j k : Card) (z : Event) → In j k → Abandons k z → PutBack j (next k z)
+abandoned j k z i a = rw (moves k z (a .0) (a .1) (a .2)) (at-end j k (a .0) (a .1) i (a .3))
+
+-- ---- the resets and the media go by what stands when it is given up
+power-card : (k : Card) → sound k ≡ true → power k .card ≡ resetTo k (powerCycle (k .cells))
+unfolding power
+power-card k h = rw h refl
+
+reset-card : (k : Card) → sound k ≡ true → settledTables (k .cells) .resettable ≡ true → reset k .card ≡ resetTo k (tperReset (k .cells))
+unfolding reset
+reset-card k h g = rw (h, g) refl
+
+reset-number : (k : Card) → sound k ≡ true → reset k .number ≡ cond (not (settledTables (k .cells) .resettable)) 7 0
+unfolding reset
+reset-number k h = simp (h, number-of)
+
+enabled : (b : Bool) → _≡_ {A = ℕ} (cond (not b) 7 0) 0 → b ≡ true
+enabled true h = refl
+enabled false h = absurd (omega arith)
+
+-- within a transaction that began at j all this is as it is at j
+record Stands (j k : Card) : Type 0 where
+  first : sound j ≡ true
+  now : sound k ≡ true
+  tables : settledTables (k .cells) ≡ settledTables (j .cells)
+  pins : settledPins k ≡ j .vault .live
+  size : k .cells .n ≡ j .cells .n
+
+power-stands : (j k : Card) → Stands j k
+    → (next k powered .cells .tables ≡ next j powered .cells .tables) × (next k powered .vault .live ≡ j .vault .live)
+unfolding next
+power-stands j k s =
+    rw (power-card j (s .first), power-card k (s .now)) (ap relocked (s .tables), s .pins)
+
+number-stands : (j k : Card) → Stands j k → reset k .number ≡ reset j .number
+number-stands j k s = rw (reset-number j (s .first), reset-number k (s .now), s .tables) refl
+
+reset-stands : (j k : Card) → Stands j k → reset j .number ≡ 0
+    → (next k wasReset .cells .tables ≡ next j wasReset .cells .tables) × (next k wasReset .vault .live ≡ j .vault .live)
+unfolding next
+reset-stands j k s z =
+    let g = enabled (settledTables (j .cells) .resettable) (sym (reset-number j (s .first)) ∙ z) in
+    rw (reset-card j (s .first) g, reset-card k (s .now) (rw (s .tables) g)) (ap relocked (s .tables), s .pins)
+
+media-stands : (j k : Card) (write : Bool) (start count : ℕ) → Stands j k → media k write start count ≡ media j write start count
+unfolding media
+media-stands j k write start count s = rw (s .first, s .now, s .tables, s .size) refl
+
+module _ (steps : (k : Card) (e : Event) → sound k ≡ true → sound (next k e) ≡ true) where
+  sound-run : (k : Card) (es : List Event) → sound k ≡ true → sound (run k es) ≡ true
+  unfolding run
+  sound-run k [] h = h
+  sound-run k (e ∷ es) h = sound-run (next k e) es (steps k e h)
+
+  stands : (k : Card) (e : Event) (es : List Event) → Transaction k e es → Stands k (within k e es)
+  stands k e es t =
+      let i = settled-open k (within k e es) (in-it k e es t) in
+      let o = settled-none k (none-before k e es t) in
+      record {
+        first = t .sound;
+        now = sound-run (next k e) es (steps k e (t .sound));
+        tables = i .0 ∙ sym (o .0);
+        pins = i .1;
+        size = in-it k e es t .size;
+      }
+
+  pub abandon-puts-back : AbandonPutsBack
+  abandon-puts-back = record {
+    abandoned = λ k e es z t a. abandoned k (within k e es) z (in-it k e es t) a;
+    by-power = λ k e es t. power-stands k (within k e es) (stands k e es t);
+    by-reset = λ k e es t z. reset-stands k (within k e es) (stands k e es t) z;
+  }
+
+  pub nothing-shows : NothingShows
+  nothing-shows = record {
+    media = λ k e es write start count t. media-stands k (within k e es) write start count (stands k e es t);
+    number = λ k e es t. number-stands k (within k e es) (stands k e es t);
+  }

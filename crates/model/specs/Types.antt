@@ -1,0 +1,20 @@
+-- The types of the record and of decisions, by one name.
+pub use Rattle.packet.specs.declared.Tsn.{Tsn}
+pub use Rattle.packet.specs.declared.Hsn.{Hsn}
+pub use Rattle.ranges.specs.declared.Row.{Row}
+pub use Rattle.ranges.specs.declared.Mbr.{Mbr}
+pub use Rattle.model.specs.declared.Tables.{Tables}
+pub use Rattle.model.specs.declared.PinRow.{PinRow}
+pub use Rattle.model.specs.declared.Session.{Session}
+pub use Rattle.model.specs.declared.Undo.{Undo}
+pub use Rattle.model.specs.declared.Cells.{Cells}
+pub use Rattle.model.specs.declared.Secret.{Secret}
+pub use Rattle.model.specs.declared.Vault.{Vault}
+pub use Rattle.model.specs.declared.Card.{Card}
+pub use Rattle.model.specs.declared.Object.{Object}
+pub use Rattle.model.specs.declared.Who.{Who}
+pub use Rattle.model.specs.declared.Access.{Access}
+pub use Rattle.model.specs.declared.Status.{Status}
+pub use Rattle.model.specs.declared.MbrEdit.{MbrEdit}
+pub use Rattle.model.specs.declared.Change.{Change}
+pub use Rattle.model.specs.declared.Decision.{Decision}

@@ -1,0 +1,123 @@
+-- Short histories from a factory record, with every byte that comes back.
+use Prim.Native.Nat.{ℕ, _+_}
+use mathlib.Core.Path.{_≡_}
+use mathlib.Core.Bool.{Bool, true, false}
+use mathlib.Core.List.{List, [], _∷_, _++_, map}
+use lib.ListN.{replicate}
+use Rattle.token.specs.Bytes.{beOf}
+use Rattle.packet.specs.Envelope.{packetOf}
+use Rattle.model.specs.Types.{Card}
+use Rattle.model.specs.Record.{factoryCard}
+use Rattle.model.specs.Uids as U
+use Rattle.model.specs.Step.{Event, packet, powered}
+use Rattle.model.specs.Seen.{Sight, trace}
+
+-- a card of 1,000,000 sectors whose MSID is 32 times 4D
+abbrev pub msid : List ℕ
+msid = replicate 32 0x4d
+
+abbrev pub card : Card
+card = factoryCard 1000000 msid
+
+-- ---- requests, as a host writes them
+abbrev pub uid : ℕ → List ℕ
+uid u = 0xa8 ∷ beOf 8 u
+
+abbrev pub status0 : List ℕ
+status0 = 0xf9 ∷ 0xf0 ∷ 0x00 ∷ 0x00 ∷ 0x00 ∷ 0xf1 ∷ []
+
+abbrev pub call : ℕ → ℕ → List ℕ → List ℕ
+call object method params = 0xf8 ∷ uid object ++ uid method ++ (0xf0 ∷ params) ++ (0xf1 ∷ status0)
+
+abbrev pub named : ℕ → List ℕ → List ℕ
+named n value = 0xf2 ∷ n ∷ value ++ (0xf3 ∷ [])
+
+-- HSN 105
+abbrev pub start : ℕ → List ℕ → List ℕ
+start sp options = call U.managerUid U.startSession (0x81 ∷ 0x69 ∷ uid sp ++ (0x01 ∷ options))
+
+abbrev pub by : ℕ → List ℕ → List ℕ
+by authority challenge = named 0x00 challenge ++ named 0x03 (uid authority)
+
+abbrev pub get : ℕ → ℕ → ℕ → List ℕ
+get object first last = call object (U.methodBase + U.getMethod) ((0xf0 ∷ named 0x03 (first ∷ [])) ++ named 0x04 (last ∷ []) ++ (0xf1 ∷ []))
+
+abbrev pub set : ℕ → List ℕ → List ℕ
+set object columns = call object (U.methodBase + U.setMethod) (named 0x01 ((0xf0 ∷ columns) ++ (0xf1 ∷ [])))
+
+abbrev pub bare : ℕ → ℕ → List ℕ
+bare object method = call object (U.methodBase + method) []
+
+-- outside a session, and in the one with this TSN
+abbrev pub out : List ℕ → Event
+out payload = packet 2048 (packetOf 0 0 payload)
+
+abbrev pub inside : ℕ → List ℕ → Event
+inside tsn payload = packet 2048 (packetOf tsn 105 payload)
+
+abbrev pub fa : List ℕ
+fa = 0xfa ∷ []
+
+-- ---- answers
+abbrev pub synced : ℕ → List ℕ
+synced tsn = packetOf 0 0 (call U.managerUid U.syncSession (0x81 ∷ 0x69 ∷ tsn ∷ []))
+
+abbrev pub unsynced : ℕ → List ℕ
+unsynced k = packetOf 0 0 (0xf8 ∷ uid U.managerUid ++ uid U.syncSession ++ (0xf0 ∷ 0xf1 ∷ 0xf9 ∷ 0xf0 ∷ k ∷ 0x00 ∷ 0x00 ∷ 0xf1 ∷ []))
+
+abbrev pub status : ℕ → ℕ → List ℕ
+status tsn k = packetOf tsn 105 (0xf0 ∷ 0xf1 ∷ 0xf9 ∷ 0xf0 ∷ k ∷ 0x00 ∷ 0x00 ∷ 0xf1 ∷ [])
+
+abbrev pub told : ℕ → List ℕ → List ℕ
+told tsn columns = packetOf tsn 105 (0xf0 ∷ 0xf0 ∷ columns ++ (0xf1 ∷ 0xf1 ∷ status0))
+
+abbrev pub plain : ℕ → List ℕ → List ℕ
+plain tsn payload = packetOf tsn 105 payload
+
+-- what comes back, event by event
+abbrev pub answers : List Event → List (List ℕ)
+answers es = map (λ x. x .bytes) (trace card es)
+
+pub record Worked : Type 0 where
+  -- "A StartSession with HSN 105 and no options", its answer with TSN 1 in full, and "End of session, TSN 1, HSN 105, whole"
+  pub session : answers (out (start U.adminSp []) ∷ inside 1 fa ∷ [])
+      ≡ (0x00 ∷ 0x00 ∷ 0x00 ∷ 0x00 ∷ 0x10 ∷ 0x00 ∷ 0x00 ∷ 0x00 ∷ 0x00 ∷ 0x00 ∷ 0x00 ∷ 0x00 ∷ 0x00 ∷ 0x00 ∷ 0x00 ∷ 0x00 ∷ 0x00 ∷ 0x00 ∷ 0x00 ∷ 0x44
+      ∷ 0x00 ∷ 0x00 ∷ 0x00 ∷ 0x00 ∷ 0x00 ∷ 0x00 ∷ 0x00 ∷ 0x00 ∷ 0x00 ∷ 0x00 ∷ 0x00 ∷ 0x00 ∷ 0x00 ∷ 0x00 ∷ 0x00 ∷ 0x00 ∷ 0x00 ∷ 0x00 ∷ 0x00 ∷ 0x00 ∷ 0x00 ∷ 0x00 ∷ 0x00 ∷ 0x2c
+      ∷ 0x00 ∷ 0x00 ∷ 0x00 ∷ 0x00 ∷ 0x00 ∷ 0x00 ∷ 0x00 ∷ 0x00 ∷ 0x00 ∷ 0x00 ∷ 0x00 ∷ 0x1e
+      ∷ 0xf8 ∷ 0xa8 ∷ 0x00 ∷ 0x00 ∷ 0x00 ∷ 0x00 ∷ 0x00 ∷ 0x00 ∷ 0x00 ∷ 0xff ∷ 0xa8 ∷ 0x00 ∷ 0x00 ∷ 0x00 ∷ 0x00 ∷ 0x00 ∷ 0x00 ∷ 0xff ∷ 0x03
+      ∷ 0xf0 ∷ 0x81 ∷ 0x69 ∷ 0x01 ∷ 0xf1 ∷ 0xf9 ∷ 0xf0 ∷ 0x00 ∷ 0x00 ∷ 0x00 ∷ 0xf1 ∷ 0x00 ∷ 0x00 ∷ [])
+      ∷ (0x00 ∷ 0x00 ∷ 0x00 ∷ 0x00 ∷ 0x10 ∷ 0x00 ∷ 0x00 ∷ 0x00 ∷ 0x00 ∷ 0x00 ∷ 0x00 ∷ 0x00 ∷ 0x00 ∷ 0x00 ∷ 0x00 ∷ 0x00 ∷ 0x00 ∷ 0x00 ∷ 0x00 ∷ 0x28
+      ∷ 0x00 ∷ 0x00 ∷ 0x00 ∷ 0x01 ∷ 0x00 ∷ 0x00 ∷ 0x00 ∷ 0x69 ∷ 0x00 ∷ 0x00 ∷ 0x00 ∷ 0x00 ∷ 0x00 ∷ 0x00 ∷ 0x00 ∷ 0x00 ∷ 0x00 ∷ 0x00 ∷ 0x00 ∷ 0x00 ∷ 0x00 ∷ 0x00 ∷ 0x00 ∷ 0x10
+      ∷ 0x00 ∷ 0x00 ∷ 0x00 ∷ 0x00 ∷ 0x00 ∷ 0x00 ∷ 0x00 ∷ 0x00 ∷ 0x00 ∷ 0x00 ∷ 0x00 ∷ 0x01 ∷ 0xfa ∷ 0x00 ∷ 0x00 ∷ 0x00 ∷ [])
+      ∷ []
+  -- take ownership: the MSID opens as SID, the new PIN opens after it, and the MSID no longer does
+  pub ownership : answers
+      (out (start U.adminSp (by U.sid (0xd0 ∷ 0x20 ∷ msid)))
+      ∷ inside 1 (set U.pinSid (named 0x03 (0xa2 ∷ 0x01 ∷ 0x02 ∷ [])))
+      ∷ inside 1 fa
+      ∷ out (start U.adminSp (by U.sid (0xd0 ∷ 0x20 ∷ msid)))
+      ∷ out (start U.adminSp (by U.sid (0xa2 ∷ 0x01 ∷ 0x02 ∷ [])))
+      ∷ [])
+      ≡ synced 1 ∷ status 1 0x00 ∷ plain 1 fa ∷ unsynced 0x01 ∷ synced 2 ∷ []
+  -- five wrong PINs are answered 01, and the right one then 12; a power cycle starts anew
+  pub lockout : answers
+      (out (start U.adminSp (by U.sid (0xa0 ∷ [])))
+      ∷ out (start U.adminSp (by U.sid (0xa0 ∷ [])))
+      ∷ out (start U.adminSp (by U.sid (0xa0 ∷ [])))
+      ∷ out (start U.adminSp (by U.sid (0xa0 ∷ [])))
+      ∷ out (start U.adminSp (by U.sid (0xa0 ∷ [])))
+      ∷ out (start U.adminSp (by U.sid (0xd0 ∷ 0x20 ∷ msid)))
+      ∷ powered
+      ∷ out (start U.adminSp (by U.sid (0xd0 ∷ 0x20 ∷ msid)))
+      ∷ [])
+      ≡ unsynced 0x01 ∷ unsynced 0x01 ∷ unsynced 0x01 ∷ unsynced 0x01 ∷ unsynced 0x01 ∷ unsynced 0x12 ∷ [] ∷ synced 1 ∷ []
+  -- the MSID can be read by anybody; a hidden column is left out, and one of another table is refused
+  pub reading : answers
+      (out (start U.adminSp [])
+      ∷ inside 1 (get U.pinMsid 0x03 0x03)
+      ∷ inside 1 (get U.pinMsid 0x01 0x02)
+      ∷ inside 1 (get U.pinMsid 0x03 0x08)
+      ∷ inside 1 (get U.pinSid 0x00 0x07)
+      ∷ inside 1 (set U.pinSid (named 0x03 (0xa0 ∷ [])))
+      ∷ [])
+      ≡ synced 1 ∷ told 1 (named 0x03 (0xd0 ∷ 0x20 ∷ msid)) ∷ told 1 [] ∷ status 1 0x0c ∷ told 1 [] ∷ status 1 0x01 ∷ []

@@ -1,0 +1,225 @@
+// The card's record and the words of its decisions. Document 01's rules are in specs/, the laws over runs in specs/Laws.antt.
+use packet::Hsn;
+use packet::Tsn;
+use ranges::Edit;
+use ranges::Flag;
+use ranges::Mbr;
+use ranges::ROWS;
+use ranges::Row;
+ghost use Rattle.model.specs.Worked.{Worked};
+ghost use Rattle.model.specs.Laws.{SoundDecided, AlwaysSound, RangesApart, TurnedAway, Secrecy, RefusedKeeps, AbandonPutsBack, CommitKeeps, NothingShows};
+
+// The rows of C_PIN, and the authorities that have one: SID is 0, Admin1 to Admin4 are 1 to 4, User1 to User8 are 5 to 12.
+// `pinCount` of specs/Record.antt is the same number.
+pub const PINS: usize = 13;
+
+// The MSID's length, and a stored PIN's at the most.
+pub const PIN_BYTES: usize = 32;
+
+// What a transaction puts back, PINs aside.
+pub struct Tables {
+    // the Locking SP's LifeCycle: 9 if set, 8 if not
+    pub active: bool,
+    pub rows: [Row; ROWS],
+    pub mbr: Mbr,
+    // column 5 of Authority; SID's is always set
+    pub enabled: [bool; PINS],
+    // column 8 of TPerInfo
+    pub resettable: bool,
+}
+
+// The public part of a PIN row.
+pub struct PinRow {
+    pub tries: u8,
+}
+
+pub struct Session {
+    pub live: bool,
+    // to the Locking SP, or else to the Admin SP
+    pub locking: bool,
+    pub tsn: Tsn,
+    pub hsn: Hsn,
+    pub proved: [bool; PINS],
+}
+
+// An open transaction, and the tables from before it.
+pub struct Undo {
+    pub live: bool,
+    pub was: Tables,
+}
+
+// Every cell that is no PIN. The MSID is printed on the card.
+pub struct Cells {
+    pub n: u64,
+    pub msid: [u8; PIN_BYTES],
+    pub tables: Tables,
+    pub pins: [PinRow; PINS],
+    pub session: Session,
+    // the next session's TSN
+    pub next: Tsn,
+    pub undo: Undo,
+}
+
+// A PIN: its first len bytes, and zeros after them.
+pub struct Secret {
+    pub bytes: [u8; PIN_BYTES],
+    pub len: u8,
+}
+
+// The PINs, and their copies from before an open transaction.
+pub struct Vault {
+    pub live: [Secret; PINS],
+    pub kept: [Secret; PINS],
+}
+
+pub struct Card {
+    pub cells: Cells,
+    pub vault: Vault,
+}
+
+// What a UID names in a session's SP.
+pub enum Object {
+    PinSid,
+    PinMsid,
+    TperInfo,
+    SpAdmin,
+    SpLocking,
+    ThisSp,
+    // an authority and its PIN, by their row
+    Authority(usize),
+    Pin(usize),
+    // 0 is the global range
+    Range(usize),
+    MbrControl,
+    Nothing,
+}
+
+// Who a UID names in an SP.
+pub enum Who {
+    Unknown,
+    Anybody,
+    Class,
+    Row(usize),
+}
+
+// One access row, all numbers: the object's kind, the method, the class of authorities, and the columns as a set of bits.
+pub struct Access {
+    pub kind: u8,
+    pub method: u32,
+    pub who: u8,
+    pub columns: u32,
+}
+
+pub enum Status {
+    Success,
+    NotAuthorized,
+    NoSessions,
+    InvalidParameter,
+    LockedOut,
+    Fail,
+}
+
+// What a Set asks of MBRControl.
+pub struct MbrEdit {
+    pub enable: Flag,
+    pub done: Flag,
+    pub done_on_program: Flag,
+}
+
+// Every change that a method makes to the tables or the PINs. Bytes are named by their place in the request.
+pub enum Change {
+    Nothing,
+    PutPin { row: usize, at: usize, len: usize },
+    PutEnabled { row: usize, on: bool },
+    PutRange { row: usize, edit: Edit },
+    PutMbr(MbrEdit),
+    PutResettable(bool),
+    Activate,
+    RevertLocking,
+    RevertAdmin,
+    RevertSp,
+}
+
+pub enum Decision {
+    // a method refused
+    Refuse(Status),
+    // a StartSession refused, and one whose PIN for this row differs
+    NotStarted(Status),
+    Missed(usize),
+    // a session to an SP for a host, with this row proved or nobody
+    Started {
+        locking: bool,
+        hsn: Hsn,
+        who: Who,
+    },
+    // an Authenticate answered 0, one whose PIN for this row differs, and one answered 1
+    Denied,
+    Mistaken(usize),
+    Proved(Who),
+    // a Get of these columns of an object
+    Told {
+        object: Object,
+        first: u64,
+        last: u64,
+    },
+    Done(Change),
+    // the control payloads
+    Began,
+    BeganAlready,
+    Committed,
+    Abandoned,
+    NoneOpen,
+    Ended,
+    // a broken payload in the session
+    Broke,
+}
+
+// A record is sound exactly if each clause of document 01 holds.
+pub fn law_sound_clauses()
+    ensures { λ _. ⌜ SoundDecided ⌝ }
+{}
+
+// After any run from any factory record the record is sound.
+pub fn law_sound()
+    ensures { λ _. ⌜ AlwaysSound ⌝ }
+{}
+
+// No two ranges share a sector, and the shares add up to N, in every record that a run reaches.
+pub fn law_apart()
+    ensures { λ _. ⌜ RangesApart ⌝ }
+{}
+
+// What is turned away by number leaves the record and the answer untouched.
+pub fn law_refused_by_number()
+    ensures { λ _. ⌜ TurnedAway ⌝ }
+{}
+
+// Demand 3: the PINs stay in.
+pub fn law_secrecy()
+    ensures { λ _. ⌜ Secrecy ⌝ }
+{}
+
+// A method refused changes no cell but a try counter.
+pub fn law_refused()
+    ensures { λ _. ⌜ RefusedKeeps ⌝ }
+{}
+
+// However a transaction ends without a commit, every cell but Tries is what it was.
+pub fn law_abandon()
+    ensures { λ _. ⌜ AbandonPutsBack ⌝ }
+{}
+
+// A commit keeps all.
+pub fn law_commit()
+    ensures { λ _. ⌜ CommitKeeps ⌝ }
+{}
+
+// Before the commit nothing shows on the media.
+pub fn law_not_shown()
+    ensures { λ _. ⌜ NothingShows ⌝ }
+{}
+
+// Short histories from a factory record, with every byte that comes back.
+pub fn law_worked()
+    ensures { λ _. ⌜ Worked ⌝ }
+{}
