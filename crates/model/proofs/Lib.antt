@@ -11,4 +11,3 @@ pub mod Decisions
 pub mod SoundStep
 pub mod Secrecy
 pub mod Transactions
-pub mod Histories

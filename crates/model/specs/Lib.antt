@@ -11,4 +11,3 @@ pub mod Answer
 pub mod Step
 pub mod Seen
 pub mod Laws
-pub mod Worked

@@ -6,7 +6,6 @@ use ranges::Flag;
 use ranges::Mbr;
 use ranges::ROWS;
 use ranges::Row;
-ghost use Rattle.model.specs.Worked.{Worked};
 ghost use Rattle.model.specs.Laws.{SoundDecided, AlwaysSound, RangesApart, TurnedAway, Secrecy, RefusedKeeps, AbandonPutsBack, CommitKeeps, NothingShows};
 
 // The rows of C_PIN, and the authorities that have one: SID is 0, Admin1 to Admin4 are 1 to 4, User1 to User8 are 5 to 12.
@@ -217,9 +216,4 @@ pub fn law_commit()
 // Before the commit nothing shows on the media.
 pub fn law_not_shown()
     ensures { λ _. ⌜ NothingShows ⌝ }
-{}
-
-// Short histories from a factory record, with every byte that comes back.
-pub fn law_worked()
-    ensures { λ _. ⌜ Worked ⌝ }
 {}

@@ -1,16 +1,15 @@
 -- Short histories from a factory record, with every byte that comes back.
 use Prim.Native.Nat.{ℕ, _+_}
 use mathlib.Core.Path.{_≡_}
-use mathlib.Core.Bool.{Bool, true, false}
 use mathlib.Core.List.{List, [], _∷_, _++_, map}
 use lib.ListN.{replicate}
 use Rattle.token.specs.Bytes.{beOf}
 use Rattle.packet.specs.Envelope.{packetOf}
-use Rattle.model.specs.Types.{Card}
+use Rattle.model.specs.declared.Card.{Card}
 use Rattle.model.specs.Record.{factoryCard}
 use Rattle.model.specs.Uids as U
-use Rattle.model.specs.Step.{Event, packet, powered}
-use Rattle.model.specs.Seen.{Sight, trace}
+use Rattle.model.specs.Step.{Event, packet, powered, run}
+use Rattle.model.specs.Seen.{trace}
 
 -- a card of 1,000,000 sectors whose MSID is 32 times 4D
 abbrev pub msid : List ℕ
@@ -48,6 +47,9 @@ set object columns = call object (U.methodBase + U.setMethod) (named 0x01 ((0xf0
 abbrev pub bare : ℕ → ℕ → List ℕ
 bare object method = call object (U.methodBase + method) []
 
+abbrev pub prove : ℕ → List ℕ → List ℕ
+prove authority proof = call U.thisSp (U.methodBase + U.authenticateMethod) (uid authority ++ named 0x00 proof)
+
 -- outside a session, and in the one with this TSN
 abbrev pub out : List ℕ → Event
 out payload = packet 2048 (packetOf 0 0 payload)
@@ -70,6 +72,9 @@ status tsn k = packetOf tsn 105 (0xf0 ∷ 0xf1 ∷ 0xf9 ∷ 0xf0 ∷ k ∷ 0x00 
 
 abbrev pub told : ℕ → List ℕ → List ℕ
 told tsn columns = packetOf tsn 105 (0xf0 ∷ 0xf0 ∷ columns ++ (0xf1 ∷ 0xf1 ∷ status0))
+
+abbrev pub result : ℕ → ℕ → List ℕ
+result tsn v = packetOf tsn 105 (0xf0 ∷ v ∷ 0xf1 ∷ status0)
 
 abbrev pub plain : ℕ → List ℕ → List ℕ
 plain tsn payload = packetOf tsn 105 payload
@@ -121,3 +126,93 @@ pub record Worked : Type 0 where
       ∷ inside 1 (set U.pinSid (named 0x03 (0xa0 ∷ [])))
       ∷ [])
       ≡ synced 1 ∷ told 1 (named 0x03 (0xd0 ∷ 0x20 ∷ msid)) ∷ told 1 [] ∷ status 1 0x0c ∷ told 1 [] ∷ status 1 0x01 ∷ []
+  -- one session at a time, "any other call on 0, 0", a wrong Write, a challenge without an authority, and a payload that is no call
+  pub manager : answers
+      (out (start U.adminSp [])
+      ∷ out (start U.adminSp [])
+      ∷ out (bare U.thisSp U.getMethod)
+      ∷ inside 1 fa
+      ∷ out (start U.lockingSp [])
+      ∷ out (start U.adminSp (named 0x00 (0xa0 ∷ [])))
+      ∷ out fa
+      ∷ [])
+      ≡ synced 1 ∷ unsynced 0x07 ∷ packetOf 0 0 (0xf0 ∷ 0xf1 ∷ 0xf9 ∷ 0xf0 ∷ 0x01 ∷ 0x00 ∷ 0x00 ∷ 0xf1 ∷ []) ∷ plain 1 fa ∷ unsynced 0x0c ∷ unsynced 0x0c ∷ [] ∷ []
+  -- a broken payload in the session: CloseSession on 0, 0, and the session is gone
+  pub broken : answers (out (start U.adminSp []) ∷ inside 1 (0xf0 ∷ []) ∷ inside 1 fa ∷ out (start U.adminSp []) ∷ [])
+      ≡ synced 1 ∷ packetOf 0 0 (call U.managerUid U.closeSession (0x81 ∷ 0x69 ∷ 0x01 ∷ [])) ∷ [] ∷ synced 2 ∷ []
+  -- Authenticate: wrong is SUCCESS with 0, right with 1; then SID may activate, and Admin1's PIN is SID's
+  pub activation : answers
+      (out (start U.adminSp [])
+      ∷ inside 1 (bare U.lockingSp U.activateMethod)
+      ∷ inside 1 (prove U.sid (0xa0 ∷ []))
+      ∷ inside 1 (prove U.sid (0xd0 ∷ 0x20 ∷ msid))
+      ∷ inside 1 (bare U.lockingSp U.activateMethod)
+      ∷ inside 1 (get U.lockingSp 0x06 0x06)
+      ∷ inside 1 fa
+      ∷ out (start U.lockingSp (by (U.adminBase + 1) (0xd0 ∷ 0x20 ∷ msid)))
+      ∷ [])
+      ≡ synced 1 ∷ status 1 0x01 ∷ result 1 0x00 ∷ result 1 0x01 ∷ status 1 0x00 ∷ told 1 (named 0x06 (0x09 ∷ [])) ∷ plain 1 fa ∷ synced 2 ∷ []
+
+-- the card after its Locking SP is activated, with Admin1 in session 2
+abbrev pub opened : List Event
+opened =
+    out (start U.adminSp (by U.sid (0xd0 ∷ 0x20 ∷ msid)))
+    ∷ inside 1 (bare U.lockingSp U.activateMethod)
+    ∷ inside 1 fa
+    ∷ out (start U.lockingSp (by (U.adminBase + 1) (0xd0 ∷ 0x20 ∷ msid)))
+    ∷ []
+
+abbrev pub locking : Card
+locking = run card opened
+
+abbrev pub from : List Event → List (List ℕ)
+from es = map (λ x. x .bytes) (trace locking es)
+
+-- range k at start for length, both of two bytes
+abbrev pub span : ℕ → ℕ → ℕ → List ℕ
+span k start len = set (U.rangeBase + k) (named 0x03 (0x82 ∷ beOf 2 start) ++ named 0x04 (0x82 ∷ beOf 2 len))
+
+pub record WorkedLocking : Type 0 where
+  -- range 1 at 1,000 for 100: 1,100 is free, 1,099 is not; overlap is judged on the row as it would stand
+  pub ranges : from
+      (inside 2 (span 1 1000 100)
+      ∷ inside 2 (span 2 1099 1)
+      ∷ inside 2 (span 2 1100 1)
+      ∷ inside 2 (get (U.rangeBase + 2) 0x03 0x04)
+      ∷ [])
+      ≡ status 2 0x00 ∷ status 2 0x0c ∷ status 2 0x00 ∷ told 2 (named 0x03 (0x82 ∷ 0x04 ∷ 0x4c ∷ []) ++ named 0x04 (0x01 ∷ [])) ∷ []
+  -- a transaction: what is set shows in the session, and is gone when it is abandoned
+  pub transaction : from
+      (inside 2 (0xfb ∷ 0x00 ∷ [])
+      ∷ inside 2 (0xfb ∷ 0x00 ∷ [])
+      ∷ inside 2 (set U.globalRange (named 0x05 (0x01 ∷ [])))
+      ∷ inside 2 (get U.globalRange 0x05 0x05)
+      ∷ inside 2 (bare U.thisSp U.revertSpMethod)
+      ∷ inside 2 (0xfc ∷ 0x01 ∷ [])
+      ∷ inside 2 (get U.globalRange 0x05 0x05)
+      ∷ inside 2 (0xfc ∷ 0x00 ∷ [])
+      ∷ [])
+      ≡ plain 2 (0xfb ∷ 0x00 ∷ []) ∷ plain 2 (0xfb ∷ 0x01 ∷ []) ∷ status 2 0x00 ∷ told 2 (named 0x05 (0x01 ∷ [])) ∷ status 2 0x3f
+      ∷ plain 2 (0xfc ∷ 0x00 ∷ []) ∷ told 2 (named 0x05 (0x00 ∷ [])) ∷ plain 2 (0xfc ∷ 0x01 ∷ []) ∷ []
+  -- the cell dies in a transaction that would have opened the global range: it comes back locked, and nothing is half done
+  pub power : from
+      (inside 2 (set U.globalRange (named 0x05 (0x01 ∷ []) ++ named 0x07 (0x01 ∷ [])))
+      ∷ inside 2 (0xfb ∷ 0x00 ∷ [])
+      ∷ inside 2 (set U.globalRange (named 0x07 (0x00 ∷ [])))
+      ∷ powered
+      ∷ out (start U.lockingSp (by (U.adminBase + 1) (0xd0 ∷ 0x20 ∷ msid)))
+      ∷ inside 1 (get U.globalRange 0x05 0x09)
+      ∷ [])
+      ≡ status 2 0x00 ∷ plain 2 (0xfb ∷ 0x00 ∷ []) ∷ status 2 0x00 ∷ [] ∷ synced 1
+      ∷ told 1 (named 0x05 (0x01 ∷ []) ++ named 0x06 (0x00 ∷ []) ++ named 0x07 (0x01 ∷ []) ++ named 0x08 (0x01 ∷ []) ++ named 0x09 (0xf0 ∷ 0x00 ∷ 0xf1 ∷ [])) ∷ []
+  -- a user is disabled until an Admin enables it, and sets its own PIN alone
+  pub users : from
+      (inside 2 (prove (U.userBase + 1) (0xa0 ∷ []))
+      ∷ inside 2 (set (U.userBase + 1) (named 0x05 (0x01 ∷ [])))
+      ∷ inside 2 fa
+      ∷ out (start U.lockingSp (by (U.userBase + 1) (0xa0 ∷ [])))
+      ∷ inside 3 (set (U.userPinBase + 2) (named 0x03 (0xa1 ∷ 0x07 ∷ [])))
+      ∷ inside 3 (set (U.userPinBase + 1) (named 0x03 (0xa1 ∷ 0x07 ∷ [])))
+      ∷ inside 3 (set (U.rangeBase + 1) (named 0x07 (0x00 ∷ [])))
+      ∷ [])
+      ≡ result 2 0x00 ∷ status 2 0x00 ∷ plain 2 fa ∷ synced 3 ∷ status 3 0x01 ∷ status 3 0x00 ∷ status 3 0x01 ∷ []

@@ -1,0 +1,2 @@
+-- The laws that the proofs of `histories` cite.
+pub mod Histories

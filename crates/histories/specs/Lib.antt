@@ -1,0 +1,3 @@
+-- The definitions that the contracts of `histories` cite.
+pub mod Worked
+pub mod Wrong
