@@ -6,16 +6,16 @@ use mathlib.Core.List.{List, [], _∷_}
 use mathlib.Core.Logic.{_≢_, _⊎_, inl, inr}
 use native.Mathlib.Omega.{arith}
 use native.Mathlib.Decide.{ℕ-discrete}
-use Rattle.model.specs.Types.{Undo, Secret, Card, Who, Change, Decision}
+use Rattle.model.specs.Types.{Undo, Cells, Secret, Card, Who, Change, Decision}
 use Rattle.model.specs.declared.Who.the-variants as W
 use Rattle.model.specs.declared.Change.the-variants as C
 use Rattle.model.specs.declared.Decision.the-variants as D
 use Rattle.model.specs.Sound.{sound}
 use Rattle.model.specs.Vault.{givenUp, obeyChange, obey}
 use Rattle.model.specs.Apply.{settledTables, cleared, change, apply, relocked, tperReset, powerCycle}
-use Rattle.model.specs.Step.{after, resetTo, power, reset, media, Event, packet, powered, wasReset, asked, next, run}
+use Rattle.model.specs.Step.{after, Reply, resetTo, power, reset, media, Event, packet, powered, wasReset, asked, next, run}
 use Rattle.model.specs.Seen.{Taken, nothing, took, taken}
-use Rattle.model.specs.Laws.{Abandons, Commits, Leaves, Inside, Transaction, within, PutBack, AbandonPutsBack, CommitKeeps, NothingShows}
+use Rattle.model.specs.Laws.{Abandons, Resets, Commits, Leaves, Inside, Transaction, within, PutBack, AbandonPutsBack, CommitKeeps, NothingShows}
 use Rattle.model.proofs.TurnedAway.{reset-keeps}
 use Rattle.model.proofs.Moves.{rests, moves, number-of}
 use Rattle.model.proofs.Decisions.{Fits, decision-fits}
@@ -156,19 +156,74 @@ put-back j k l p q = record { tables = q .tables ∙ p .tables; pins = q .pins �
 committed : (k : Card) (z : Event) → Commits k z → PutBack k (next k z)
 committed k z c = rw (moves k z (c .0) D.Committed (c .1)) (at-commit k (c .0))
 
+others-stay : (k : Card) (s : List ℕ) → (after k s D.Committed .cells .session ≡ k .cells .session) × (after k s D.Committed .cells .pins ≡ k .cells .pins)
+unfolding apply
+others-stay k s = (refl, refl)
+
+others : (k : Card) (z : Event) → Commits k z → (next k z .cells .session ≡ k .cells .session) × (next k z .cells .pins ≡ k .cells .pins)
+others k z c = rw (moves k z (c .0) D.Committed (c .1)) (others-stay k (c .0))
+
 ended-after : (k : Card) (y : Event) → k .cells .undo .live ≡ false → Abandons k y → PutBack k (next k y)
 ended-after k y o a = rw (moves k y (a .0) (a .1) (a .2)) (at-none k (a .0) (a .1) o (decision-fits k y (a .0) (a .1) (a .2)) (a .3))
+
+-- with none open a reset keeps the PINs
+record SamePins (k : Card) (r : Reply) : Type 0 where
+  pins : r .card .vault .live ≡ k .vault .live
+
+kept : (k : Card) (n : ℕ) → SamePins k (record { number = n; card = k; bytes = [] })
+kept k n = record { pins = refl }
+
+given-up : (k : Card) (c : Cells) → k .cells .undo .live ≡ false → SamePins k (record { number = 0; card = resetTo k c; bytes = [] })
+given-up k c o = record { pins = settled-none k o .1 }
+
+either : (k : Card) (b : Bool) (x y : Reply) → SamePins k x → SamePins k y → SamePins k (cond b x y)
+either k true x y f g = f
+either k false x y f g = g
+
+power-pins : (k : Card) → k .cells .undo .live ≡ false → SamePins k (power k)
+unfolding power
+power-pins k o = search (either, kept, given-up)
+
+reset-pins : (k : Card) → k .cells .undo .live ≡ false → SamePins k (reset k)
+unfolding reset
+reset-pins k o = search (either, kept, given-up)
+
+resets-pins : (k : Card) (y : Event) → k .cells .undo .live ≡ false → Resets k y → next k y .vault .live ≡ k .vault .live
+unfolding next
+resets-pins k y o (inl h) = rw h (power-pins k o .pins)
+resets-pins k y o (inr h) = rw (h .0) (reset-pins k o .pins)
 
 pub commit-keeps : CommitKeeps
 commit-keeps = record {
   keeps = λ k e es z t c. committed (within k e es) z c;
+  others = λ k e es z t c. others (within k e es) z c;
   lasts = λ k e es z y t c a.
       let p = committed (within k e es) z c in
       put-back (within k e es) (next (within k e es) z) (next (next (within k e es) z) y) p (ended-after (next (within k e es) z) y (p .closed) a);
+  powers = λ k e es z y t c r.
+      let p = committed (within k e es) z c in
+      resets-pins (next (within k e es) z) y (p .closed) r ∙ p .pins;
 }
 
 abandoned : (j k : Card) (z : Event) → In j k → Abandons k z → PutBack j (next k z)
 abandoned j k z i a = rw (moves k z (a .0) (a .1) (a .2)) (at-end j k (a .0) (a .1) i (a .3))
+
+-- what outlives it
+tries-stay : (c : Cells) (d : Decision) → Dies d → apply c d .pins ≡ c .pins
+unfolding apply
+tries-stay c d (inl h) = rw h refl
+tries-stay c d (inr (inl h)) = rw h refl
+tries-stay c d (inr (inr h)) = rw h refl
+
+tries-outlive : (k : Card) (z : Event) → Abandons k z → next k z .cells .pins ≡ k .cells .pins
+tries-outlive k z a = rw (moves k z (a .0) (a .1) (a .2)) (tries-stay (k .cells) (a .1) (a .3))
+
+session-stays : (k : Card) (s : List ℕ) → after k s D.Abandoned .cells .session ≡ k .cells .session
+unfolding apply
+session-stays k s = refl
+
+proved-outlives : (k : Card) (z : Event) (s : List ℕ) → taken k z ≡ took s D.Abandoned → next k z .cells .session ≡ k .cells .session
+proved-outlives k z s b = rw (moves k z s D.Abandoned b) (session-stays k s)
 
 -- ---- the resets and the media go by what stands when it is given up
 power-card : (k : Card) → sound k ≡ true → power k .card ≡ resetTo k (powerCycle (k .cells))
@@ -236,6 +291,8 @@ module _ (steps : (k : Card) (e : Event) → sound k ≡ true → sound (next k 
   pub abandon-puts-back : AbandonPutsBack
   abandon-puts-back = record {
     abandoned = λ k e es z t a. abandoned k (within k e es) z (in-it k e es t) a;
+    tries = λ k e es z t a. tries-outlive (within k e es) z a;
+    proved = λ k e es z s t b. proved-outlives (within k e es) z s b;
     by-power = λ k e es t. power-stands k (within k e es) (stands k e es t);
     by-reset = λ k e es t z. reset-stands k (within k e es) (stands k e es t) z;
   }

@@ -155,6 +155,11 @@ pub record PutBack (j k : Card) : Type 0 where
 pub record AbandonPutsBack : Type 0 where
   pub abandoned : (k : Card) (e : Event) (es : List Event) (z : Event) → Transaction k e es → Abandons (within k e es) z
       → PutBack k (next (within k e es) z)
+  -- "Authentications and Tries outlive an abandoned transaction"
+  pub tries : (k : Card) (e : Event) (es : List Event) (z : Event) → Transaction k e es → Abandons (within k e es) z
+      → next (within k e es) z .cells .pins ≡ within k e es .cells .pins
+  pub proved : (k : Card) (e : Event) (es : List Event) (z : Event) (s : List ℕ) → Transaction k e es → taken (within k e es) z ≡ took s D.Abandoned
+      → next (within k e es) z .cells .session ≡ within k e es .cells .session
   -- after a reset it is as if the reset had come before the transaction began
   pub by-power : (k : Card) (e : Event) (es : List Event) → Transaction k e es
       → (next (within k e es) powered .cells .tables ≡ next k powered .cells .tables) × (next (within k e es) powered .vault .live ≡ k .vault .live)
@@ -165,8 +170,12 @@ pub record AbandonPutsBack : Type 0 where
 pub record CommitKeeps : Type 0 where
   pub keeps : (k : Card) (e : Event) (es : List Event) (z : Event) → Transaction k e es → Commits (within k e es) z
       → PutBack (within k e es) (next (within k e es) z)
+  pub others : (k : Card) (e : Event) (es : List Event) (z : Event) → Transaction k e es → Commits (within k e es) z
+      → (next (within k e es) z .cells .session ≡ within k e es .cells .session) × (next (within k e es) z .cells .pins ≡ within k e es .cells .pins)
   pub lasts : (k : Card) (e : Event) (es : List Event) (z y : Event) → Transaction k e es → Commits (within k e es) z
       → Abandons (next (within k e es) z) y → PutBack (within k e es) (next (next (within k e es) z) y)
+  pub powers : (k : Card) (e : Event) (es : List Event) (z y : Event) → Transaction k e es → Commits (within k e es) z
+      → Resets (next (within k e es) z) y → next (next (within k e es) z) y .vault .live ≡ within k e es .vault .live
 
 -- "With a transaction open, media questions and number 7 go by the cells from before it"
 pub record NothingShows : Type 0 where
