@@ -11,3 +11,4 @@ pub mod Decisions
 pub mod SoundStep
 pub mod Secrecy
 pub mod Transactions
+pub mod Accessed

@@ -11,3 +11,4 @@ pub mod Answer
 pub mod Step
 pub mod Seen
 pub mod Laws
+pub mod Words

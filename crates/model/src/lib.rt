@@ -6,6 +6,7 @@ use ranges::Flag;
 use ranges::Mbr;
 use ranges::ROWS;
 use ranges::Row;
+ghost use Rattle.model.specs.Words.{AccessAsSaid};
 ghost use Rattle.model.specs.Laws.{SoundDecided, AlwaysSound, RangesApart, TurnedAway, Secrecy, RefusedKeeps, AbandonPutsBack, CommitKeeps, NothingShows};
 
 // The rows of C_PIN, and the authorities that have one: SID is 0, Admin1 to Admin4 are 1 to 4, User1 to User8 are 5 to 12.
@@ -216,4 +217,9 @@ pub fn law_commit()
 // Before the commit nothing shows on the media.
 pub fn law_not_shown()
     ensures { λ _. ⌜ NothingShows ⌝ }
+{}
+
+// The access table says what document 01 says in words.
+pub fn law_access()
+    ensures { λ _. ⌜ AccessAsSaid ⌝ }
 {}
