@@ -11,4 +11,5 @@ pub mod Decisions
 pub mod SoundStep
 pub mod Secrecy
 pub mod Transactions
+pub mod Numbered
 pub mod Accessed

@@ -1,6 +1,6 @@
 -- Every record that a run reaches is sound: each legal decision and each reset keeps it so.
 use Prim.Native.Nat.{ℕ, _+_, _≤_, _<_}
-use mathlib.Core.Path.{_≡_, refl, sym, _∙_}
+use mathlib.Core.Path.{_≡_, refl, sym, _∙_, subst}
 use mathlib.Core.Bool.{Bool, true, false, not, cond, true≢false}
 use mathlib.Core.List.{List, [], _∷_}
 use mathlib.Core.Logic.{_≢_, ⊎-elim}
@@ -8,8 +8,9 @@ use native.Mathlib.Omega.{arith}
 use lib.ListN.{set, length-set}
 use lib.Dec.{ltb}
 use Rattle.ranges.proofs.Decide.{is-true, le-or-lt}
-use Rattle.ranges.proofs.Shares.{shares-total}
+use Rattle.ranges.proofs.Shares.{shares-total, share-range}
 use Rattle.model.specs.Types.{Tsn, Hsn, Tables, PinRow, Session, Cells, Secret, Card, Who, Change, Decision}
+use Rattle.model.specs.declared.Who.the-variants as W
 use Rattle.model.specs.declared.Change.the-variants as C
 use Rattle.model.specs.declared.Decision.the-variants as D
 use Rattle.model.specs.Record as R
@@ -240,9 +241,9 @@ run-sound k (e ∷ es) h = run-sound (next k e) es (next-sound k e h)
 
 pub factory-sound : (n : ℕ) (msid : List ℕ) → Made n msid → SoundRecord (R.factoryCard n msid)
 factory-sound n msid m = record {
-  size = (m .0, m .1);
+  size = (omega (arith, m .0), omega (arith, m .1));
   msid = m .2;
-  tables = Parts.restored-sound n R.factoryTables;
+  tables = Parts.restored-sound _ R.factoryTables;
   pins = refl;
   tries = no-tries .1;
   next = omega arith;
@@ -261,14 +262,75 @@ always-sound = record {
   always = λ n msid es m. is-true _ (sound-decides _) (run-sound _ es (factory-sound n msid m));
 }
 
+-- ---- the record's size stays
+cleared-size : (c : Cells) (w : Who) → A.cleared c w .n ≡ c .n
+unfolding A.cleared
+cleared-size c W.Unknown = refl
+cleared-size c W.Anybody = refl
+cleared-size c W.Class = refl
+cleared-size c (W.Row r) = refl
+
+change-size : (c : Cells) (x : Change) → A.change c x .n ≡ c .n
+unfolding A.change
+change-size c C.Nothing = refl
+change-size c (C.PutPin r p n) = refl
+change-size c (C.PutEnabled r on) = refl
+change-size c (C.PutRange i e) = refl
+change-size c (C.PutMbr e) = refl
+change-size c (C.PutResettable on) = refl
+change-size c C.Activate = refl
+change-size c C.RevertLocking = refl
+change-size c C.RevertAdmin = refl
+change-size c C.RevertSp = refl
+
+apply-size : (c : Cells) (d : Decision) → A.apply c d .n ≡ c .n
+unfolding A.apply
+apply-size c (D.Refuse e) = refl
+apply-size c (D.NotStarted e) = refl
+apply-size c (D.Missed r) = refl
+apply-size c (D.Started locking hsn w) = cleared-size c w
+apply-size c D.Denied = refl
+apply-size c (D.Mistaken r) = refl
+apply-size c (D.Proved w) = cleared-size c w
+apply-size c (D.Told o first last) = refl
+apply-size c (D.Done x) = change-size c x
+apply-size c D.Began = refl
+apply-size c D.BeganAlready = refl
+apply-size c D.Committed = refl
+apply-size c D.Abandoned = refl
+apply-size c D.NoneOpen = refl
+apply-size c D.Ended = refl
+apply-size c D.Broke = refl
+
+reply-size : (k : Card) (x : Heard) → Z.replyTo k x .card .cells .n ≡ k .cells .n
+unfolding Z.replyTo
+reply-size k (Z.turned n) = refl
+reply-size k (Z.judged tsn hsn s j) = apply-size (k .cells) (Y.decided (k .vault) s j)
+
+next-size : (k : Card) (e : Event) → next k e .cells .n ≡ k .cells .n
+unfolding next Z.power Z.reset
+next-size k (packet room s) = reply-size k (Z.heard k room s)
+next-size k powered = cond-ind (λ (r : Z.Reply). r .card .cells .n ≡ k .cells .n) (sound k) _ _ (λ _. refl) (λ _. refl)
+next-size k wasReset =
+    cond-ind (λ (r : Z.Reply). r .card .cells .n ≡ k .cells .n) (not (sound k)) _ _ (λ _. refl) λ _.
+    cond-ind (λ (r : Z.Reply). r .card .cells .n ≡ k .cells .n) (not (A.settledTables (k .cells) .resettable)) _ _ (λ _. refl) (λ _. refl)
+next-size k (asked write start count) = refl
+
+run-size : (k : Card) (es : List Event) → run k es .cells .n ≡ k .cells .n
+unfolding run
+run-size k [] = refl
+run-size k (e ∷ es) = run-size (next k e) es ∙ next-size k e
+
 -- ---- ranges
-apart-and-shared : (n m : ℕ) (t : Tables) → SoundTables m t → ApartAndShared (t .rows) n
-apart-and-shared n m t h = record {
+apart-and-shared : (n : ℕ) (t : Tables) → SoundTables n t → ApartAndShared (t .rows) n
+apart-and-shared n t h = record {
+  ends = h .fit .ends;
   apart = λ i j s oi li oj lj ne x y.
       ⊎-elim
       (λ le. h .fit .apart j i oi (strictly i j le ne) lj s y x)
       (λ lt. h .fit .apart i j oj lt li s x y)
       (le-or-lt i j);
+  each = share-range (t .rows) n (h .fit);
   shares = shares-total (t .rows) (omega (arith, h .rows)) n;
 }
   where
@@ -276,4 +338,6 @@ apart-and-shared n m t h = record {
     strictly i j le ne = omega arith
 
 pub ranges-apart : RangesApart
-ranges-apart n msid es m = apart-and-shared n _ _ (run-sound _ es (factory-sound n msid m) .tables)
+ranges-apart n msid es m =
+    let k = run (R.factoryCard n msid) es in
+    (run-size _ es, apart-and-shared n _ (subst (λ (x : ℕ). SoundTables x (k .cells .tables)) (run-size _ es) (run-sound _ es (factory-sound n msid m) .tables)))

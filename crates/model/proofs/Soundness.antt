@@ -22,11 +22,11 @@ use Rattle.model.specs.Laws.{SoundTables, SoundSession, SoundSecret, Sou
 pub dec-eq : (m n : ℕ) → Decides (eqb m n) (m ≡ n)
 dec-eq m n = record { holds = eqb-true m n; fails = eqb-false m n }
 
-dec-on : (b : Bool) → Decides b (b ≡ true)
+pub dec-on : (b : Bool) → Decides b (b ≡ true)
 dec-on true = from-true refl refl
 dec-on false = from-false refl (λ e. true≢false (sym e))
 
-dec-off : (b : Bool) → Decides (not b) (b ≡ false)
+pub dec-off : (b : Bool) → Decides (not b) (b ≡ false)
 dec-off true = from-false refl true≢false
 dec-off false = from-true refl refl
 

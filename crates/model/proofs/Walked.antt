@@ -1,12 +1,11 @@
 -- The walk: whatever is decided of a packet is legal where it is decided.
 use Prim.Native.Nat.{ℕ, _<_}
 use mathlib.Core.Path.{_≡_, refl, sym}
-use mathlib.Core.Bool.{Bool, true, false, not, _&&_, cond, true≢false}
+use mathlib.Core.Bool.{Bool, true, false, _&&_, cond, true≢false}
 use mathlib.Core.List.{List}
 use borrow.Author.Tests.{ltb-true, leb-true, not-true}
 use native.Mathlib.Omega.{arith}
-use lib.ListN.{length}
-use lib.Dec.{ltb, eqb}
+use lib.Dec.{eqb}
 use Rattle.packet.specs.declared.Opened.{Opened}
 use Rattle.packet.specs.declared.Opened.the-variants as N
 use Rattle.payload.specs.declared.Payload.{Payload}
@@ -32,7 +31,6 @@ use Rattle.model.specs.declared.Change.the-variants as C
 use Rattle.model.specs.declared.Decision.the-variants as D
 use Rattle.model.specs.Record as R
 use Rattle.model.specs.Uids as U
-use Rattle.model.specs.Sound.{sound}
 use Rattle.model.specs.Judge as J
 use Rattle.model.specs.Step as Z
 use Rattle.model.proofs.Legal as L
@@ -200,8 +198,11 @@ hear-packet c s (N.Packet tsn hsn start len) =
     cond-ind (FairHeard c) (Z.isSession (c .session) tsn hsn) _ _ (λ e. taken (judge-session c (both (c .session .live) _ e .0) _ _)) (λ _. away)
 hear-packet c s N.Broken = away
 
+-- whatever the test
+heard-either : (c : Cells) (b : Bool) (x y : Z.Heard) → FairHeard c x → FairHeard c y → FairHeard c (cond b x y)
+heard-either c true x y f g = f
+heard-either c false x y f g = g
+
 pub heard-fair : (k : Card) (room : ℕ) (s : List ℕ) → FairHeard (k .cells) (Z.heard k room s)
 unfolding Z.heard
-heard-fair k room s =
-    cond-ind (FairHeard (k .cells)) (not (sound k)) _ _ (λ _. away) λ _. cond-ind (FairHeard (k .cells)) (ltb room Z.maxBytes) _ _ (λ _. away) λ _.
-    cond-ind (FairHeard (k .cells)) (ltb Z.maxBytes (length s)) _ _ (λ _. away) λ _. hear-packet (k .cells) s _
+heard-fair k room s = search (heard-either, away, hear-packet)

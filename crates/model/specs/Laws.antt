@@ -71,14 +71,16 @@ pub record AlwaysSound : Type 0 where
   pub step : (k : Card) (e : Event) → sound k ≡ true → sound (next k e) ≡ true
   pub always : (n : ℕ) (msid : List ℕ) (es : List Event) → Made n msid → sound (run (R.factoryCard n msid) es) ≡ true
 
--- ---- "No two ranges share a sector, the global one aside", and the shares add up, in every record that is reached
+-- ---- "No two ranges share a sector, the global one aside", each ends within N, and the shares add up, in every record that is reached
 pub record ApartAndShared (rows : List _) (n : ℕ) : Type 0 where
+  pub ends : (i : ℕ) → 1 ≤ i → i < length rows → rowAt rows i .start + rowAt rows i .length ≤ n
   pub apart : (i j s : ℕ) → 1 ≤ i → i < length rows → 1 ≤ j → j < length rows → i ≢ j → Holds (rowAt rows i) s → Holds (rowAt rows j) s → ⊥
+  pub each : (i : ℕ) → 1 ≤ i → i < length rows → share rows n i ≡ rowAt rows i .length
   pub shares : sum (share rows n) (length rows) ≡ n
 
 abbrev pub RangesApart : Type 0
 RangesApart = (n : ℕ) (msid : List ℕ) (es : List Event) → Made n msid
-    → ApartAndShared (run (R.factoryCard n msid) es .cells .tables .rows) n
+    → (run (R.factoryCard n msid) es .cells .n ≡ n) × ApartAndShared (run (R.factoryCard n msid) es .cells .tables .rows) n
 
 -- ---- "A request turned away by number leaves the record and the answer buffer untouched"
 pub record TurnedAway : Type 0 where

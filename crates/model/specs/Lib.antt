@@ -11,4 +11,5 @@ pub mod Answer
 pub mod Step
 pub mod Seen
 pub mod Laws
+pub mod Numbers
 pub mod Words

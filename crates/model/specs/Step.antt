@@ -6,7 +6,7 @@ use lib.ListN.{length, take, drop}
 use lib.Dec.{leb, ltb, eqb}
 use Rattle.packet.specs.declared.Opened.{Opened}
 use Rattle.packet.specs.declared.Opened.the-variants as O
-use Rattle.packet.specs.Envelope.{openedOf, packetOf}
+use Rattle.packet.specs.Envelope.{openedOf, numberOf, packetOf}
 use Rattle.payload.specs.declared.Payload.{Payload}
 use Rattle.payload.specs.declared.Payload.the-variants as P
 use Rattle.payload.specs.Payload.{payloadAt}
@@ -62,7 +62,7 @@ hearPacket c s (O.Packet tsn hsn start len) =
     cond (isManager tsn hsn) (hearManager c tsn hsn (take (start + len) s) (payloadAt (take (start + len) s) start))
     (cond (isSession (c .session) tsn hsn) (judged tsn hsn (take (start + len) s) (judgeSession c (take (start + len) s) (payloadAt (take (start + len) s) start)))
     (turned 5))
-hearPacket c s O.Broken = turned 4
+hearPacket c s O.Broken = turned (numberOf O.Broken)
 
 -- "Lowest number first"
 unfoldable pub heard : Card → ℕ → List ℕ → Heard

@@ -6,6 +6,7 @@ use ranges::Flag;
 use ranges::Mbr;
 use ranges::ROWS;
 use ranges::Row;
+ghost use Rattle.model.specs.Numbers.{NumbersInOrder, NeverUnsound};
 ghost use Rattle.model.specs.Words.{AccessAsSaid};
 ghost use Rattle.model.specs.Laws.{SoundDecided, AlwaysSound, RangesApart, TurnedAway, Secrecy, RefusedKeeps, AbandonPutsBack, CommitKeeps, NothingShows};
 
@@ -184,7 +185,7 @@ pub fn law_sound()
     ensures { λ _. ⌜ AlwaysSound ⌝ }
 {}
 
-// No two ranges share a sector, and the shares add up to N, in every record that a run reaches.
+// N stays, no two ranges share a sector, each ends within N and owns its length, and the shares add up to N, in every record that a run reaches.
 pub fn law_apart()
     ensures { λ _. ⌜ RangesApart ⌝ }
 {}
@@ -217,6 +218,16 @@ pub fn law_commit()
 // Before the commit nothing shows on the media.
 pub fn law_not_shown()
     ensures { λ _. ⌜ NothingShows ⌝ }
+{}
+
+// The number that comes back is the lowest that applies.
+pub fn law_numbers()
+    ensures { λ _. ⌜ NumbersInOrder ⌝ }
+{}
+
+// From a factory record number 1 never comes.
+pub fn law_never_unsound()
+    ensures { λ _. ⌜ NeverUnsound ⌝ }
 {}
 
 // The access table says what document 01 says in words.

@@ -59,8 +59,8 @@ sealed s =
 unfoldable pub openedOf : List ℕ → Opened
 openedOf s = cond (sealed s) (O.Packet (record { 0 = tsnAt s }) (record { 0 = hsnAt s }) payloadStart (subLength s)) O.Broken
 
--- the number of document 01: 4, envelope broken
-unfoldable pub numberOf : Opened → ℕ
+-- the number of document 01: 4, envelope broken; a packet that is opened is not turned away here
+abbrev pub numberOf : Opened → ℕ
 numberOf (O.Packet tsn hsn start len) = 0
 numberOf O.Broken = 4
 

@@ -6,7 +6,7 @@ ghost use Prim.Native.Nat.{_+_, _<_, _≤_};
 ghost use lib.ListN.{length, drop};
 ghost use Rattle.token.specs.Bytes.{beOf, numberAt, over};
 ghost use Rattle.packet.specs.Envelope.{padOf, openedOf, header, sealEnd, sealAll};
-ghost use Rattle.packet.specs.Laws.{ReadBack, Inside};
+ghost use Rattle.packet.specs.Laws.{ReadBack, Inside, Padded};
 
 // The card's number of a session. Not the host's: the two are types of their own, so that a swap does not compile.
 pub struct Tsn(pub u32);
@@ -134,7 +134,12 @@ pub fn law_read_back()
     ensures { λ _. ⌜ ReadBack ⌝ }
 {}
 
-// A packet that is accepted has all its bytes inside the request.
+// A packet that is accepted has all its bytes, the pad with them, inside the request.
 pub fn law_inside()
     ensures { λ _. ⌜ Inside ⌝ }
+{}
+
+// There are 0 to 3 pad bytes, up to a multiple of 4.
+pub fn law_pad()
+    ensures { λ _. ⌜ Padded ⌝ }
 {}

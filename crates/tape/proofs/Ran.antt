@@ -104,12 +104,12 @@ module _ (tok : ℕ → Token) where
   value-row n (suc d) p = token-row (suc d) (nestBy tok (valueBy tok n d) n) p (tok p) refl (λ c q e. nest-row d (valueBy tok n d) (value-row n d) n p c q e)
 
 -- ---- and back
--- the same contents and the same tokens, wherever lists stand
+-- the same contents, wherever lists stand
 abbrev pub Alike : Value → Value → Type 0
-Alike v w = ((s : List ℕ) → plainIn s v ≡ plainIn s w) × (toks v ≡ toks w)
+Alike v w = (s : List ℕ) → plainIn s v ≡ plainIn s w
 
 abbrev AllAlike : Values → Values → Type 0
-AllAlike vs ws = ((s : List ℕ) → plainsIn s vs ≡ plainsIn s ws) × (toksAll vs ≡ toksAll ws)
+AllAlike vs ws = (s : List ℕ) → plainsIn s vs ≡ plainsIn s ws
 
 leaf-reads : (nest : ℕ → ℕ → Out Value) (t : Token) (a : Atom) (q : ℕ) → t ≡ tokTo (leaf a) q → (valueOf nest t ≡ ok (atom a) q) × (markOf 0xf1 t ≡ bad) × (atomIs t ≡ ok a q)
 unfolding valueOf markOf atomIs
@@ -125,27 +125,27 @@ module _ (tok : ℕ → Token) (N : ℕ) (ta : (p : ℕ) → Has Any p N (tok p)
 
   atom-back : (a : Atom) (d p q : ℕ) → tok p ≡ tokTo (leaf a) q → Reads d p (atom a) q
   unfolding valueBy
-  atom-back a zero p q e = let h = leaf-reads (λ c q. bad) (tok p) a q e in (atom a, h .0, (λ s. refl, refl), h .1)
-  atom-back a (suc d) p q e = let h = leaf-reads (nestBy tok (valueBy tok N d) N) (tok p) a q e in (atom a, h .0, (λ s. refl, refl), h .1)
+  atom-back a zero p q e = let h = leaf-reads (λ c q. bad) (tok p) a q e in (atom a, h .0, λ s. refl, h .1)
+  atom-back a (suc d) p q e = let h = leaf-reads (nestBy tok (valueBy tok N d) N) (tok p) a q e in (atom a, h .0, λ s. refl, h .1)
 
   list-back : (b : ℕ) (vs : Values) (d p r q : ℕ) → tok p ≡ K.Control 0xf0 r → AllRead d r vs q → Reads (suc d) p (list b vs) q
-  unfolding valueBy valueOf nestBy listBy then markOf plainIn toks
-  list-back b vs d p r q e h = (list r (h .0), rw (e, h .1), (λ s. rw (h .2 .0 s), rw (h .2 .1)), rw e)
+  unfolding valueBy valueOf nestBy listBy then markOf plainIn
+  list-back b vs d p r q e h = (list r (h .0), rw (e, h .1), λ s. rw (h .2 s), rw e)
 
   named-back : (a : Atom) (v : Value) (d p r y z q : ℕ) → tok p ≡ K.Control 0xf2 r → tok r ≡ tokTo (leaf a) y → Reads d y v z → tok z ≡ K.Control 0xf3 q → Reads (suc d) p (named a v) q
-  unfolding valueBy valueOf nestBy namedBy then markOf plainIn toks
-  named-back a v d p r y z q e l h c = (named a (h .0), rw (e, leaf-reads (λ c q. bad) (tok r) a y l .2, h .1, c), (λ s. rw (h .2 .0 s), rw (h .2 .1)), rw e)
+  unfolding valueBy valueOf nestBy namedBy then markOf plainIn
+  named-back a v d p r y z q e l h c = (named a (h .0), rw (e, leaf-reads (λ c q. bad) (tok r) a y l .2, h .1, c), λ s. rw (h .2 s), rw e)
 
   step : (d p : ℕ) → valuesBy tok (valueBy tok N d) N p ≡ endOr (markOf 0xf1 (tok p)) (then (valueBy tok N d p) (λ v q. then (valuesBy tok (valueBy tok N d) N q) (λ vs r. ok (more v vs) r)))
   step d p = values-step tok N ta (valueBy tok N d) (value-ends tok N ta N d) p
 
   none-back : (d p q : ℕ) → tok p ≡ K.Control 0xf1 q → AllRead d p none q
   unfolding endOr markOf
-  none-back d p q e = (none, step d p ∙ rw e, (λ s. refl, refl))
+  none-back d p q e = (none, step d p ∙ rw e, λ s. refl)
 
   more-back : (v : Value) (vs : Values) (d p r q : ℕ) → Reads d p v r → AllRead d r vs q → AllRead d p (more v vs) q
-  unfolding endOr then plainIn toks
-  more-back v vs d p r q h k = (more (h .0) (k .0), step d p ∙ rw (h .3, h .1, k .1), (λ s. rw (h .2 .0 s, k .2 .0 s), rw (h .2 .1, k .2 .1)))
+  unfolding endOr then plainIn
+  more-back v vs d p r q h k = (more (h .0) (k .0), step d p ∙ rw (h .3, h .1, k .1), λ s. rw (h .2 s, k .2 s))
 
   mutual
     unfolding toks

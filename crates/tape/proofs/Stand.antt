@@ -1,5 +1,5 @@
 -- Where a value's bytes stand, its tokens stand, and there the value is read.
-use Prim.Native.Nat.{ℕ, zero, suc, _+_, _≤_, _<_}
+use Prim.Native.Nat.{ℕ, zero, suc, _+_, _≤_}
 use mathlib.Core.Path.{_≡_, refl, sym, ap, _∙_}
 use mathlib.Core.List.{List, [], _∷_, _++_, append-assoc}
 use native.Mathlib.Omega.{arith}
@@ -8,8 +8,7 @@ use lib.Dec.{lit≤}
 use lib.Seq.{take-at, drop-drop, drop-append-seam}
 use Rattle.token.specs.declared.Token.the-variants as K
 use Rattle.token.specs.Token.{tokenOf, tokenAt}
-use Rattle.token.specs.Write.{headOf, encBytes, maxBytes}
-use Rattle.token.proofs.Forms.{bytes-length}
+use Rattle.token.specs.Write.{headOf, encBytes}
 use Rattle.token.proofs.Round.{read-int, read-bytes, read-control, here}
 use Rattle.value.specs.Value as At
 use Rattle.value.specs.Read.{ok, valueAt}
@@ -17,15 +16,9 @@ use Rattle.value.specs.Plain.{Atom, int, bytes, Plain, atom, list, named, Plain
 use Rattle.value.proofs.Inside.{token-ends}
 use Rattle.tape.specs.Write.{encAtom, encValue, encValues, Small, Within, AllWithin}
 use Rattle.tape.specs.Laws.{RoundTrip}
-use Rattle.tape.proofs.Rows.{Tok, leaf, mark, tokTo, toks, toksAll, Nests, AllNest, Row, join, All, all-join}
+use Rattle.tape.proofs.Rows.{leaf, mark, tokTo, toks, toksAll, Nests, AllNest, Row, join}
 use Rattle.tape.proofs.Ran.{value-back}
 use Rattle.tape.proofs.Puts.{mark-is}
-
--- a token whose bytes lie in n bytes and are not too many for an atom
-abbrev pub Sound : ℕ → Tok → Type 0
-Sound n (leaf (At.int v)) = Unit {0}
-Sound n (leaf (At.bytes p m)) = (p + m ≤ n) × (m < maxBytes)
-Sound n (mark c) = (0xf0 ≤ c) × (c ≤ 0xf3)
 
 module _ (w : List ℕ) where
   -- what stands behind x
@@ -34,17 +27,14 @@ module _ (w : List ℕ) where
 
   -- ---- a mark, and y behind it
   abbrev MarkStands : ℕ → ℕ → List ℕ → Type 0
-  MarkStands c p y = (tokenAt w p ≡ K.Control c (p + 1)) × (drop (p + 1) w ≡ y) × Sound (length w) (mark c)
+  MarkStands c p y = (tokenAt w p ≡ K.Control c (p + 1)) × (drop (p + 1) w ≡ y)
 
   mark-stands : (c p : ℕ) (y : List ℕ) → 0xf0 ≤ c → c ≤ 0xf3 → drop p w ≡ c ∷ y → MarkStands c p y
-  mark-stands c p y h k e = (ap (tokenOf p) e ∙ read-control c p y (mark-is c h k), behind p (c ∷ []) y e, (h, k))
+  mark-stands c p y h k e = (ap (tokenOf p) e ∙ read-control c p y (mark-is c h k), behind p (c ∷ []) y e)
 
   -- ---- an atom
   abbrev AtomStands : Atom → ℕ → ℕ → Type 0
-  AtomStands x p q = (a : At.Atom) × (atomIn w a ≡ x) × (tokenAt w p ≡ tokTo (leaf a) q) × Sound (length w) (leaf a)
-
-  lies : (p b m q : ℕ) → tokenAt w p ≡ K.Bytes b m q → q ≤ length w
-  lies p b m q e = let h : (p < q) × (q ≤ length w) × Unit {0} = rw e at (token-ends w p) in h .1
+  AtomStands x p q = (a : At.Atom) × (atomIn w a ≡ x) × (tokenAt w p ≡ tokTo (leaf a) q)
 
   inner : (p : ℕ) (bs y : List ℕ) → drop p w ≡ encBytes bs ++ y → take (length bs) (drop (p + length (headOf (length bs))) w) ≡ bs
   unfolding encBytes
@@ -54,17 +44,16 @@ module _ (w : List ℕ) where
 
   atom-stands : (x : Atom) (p : ℕ) (y : List ℕ) → Small x → drop p w ≡ encAtom x ++ y → AtomStands x p (p + length (encAtom x))
   unfolding encAtom atomIn
-  atom-stands (int v) p y h e = (At.int v, refl, ap (tokenOf p) e ∙ read-int v p y h, tt)
+  atom-stands (int v) p y h e = (At.int v, refl, ap (tokenOf p) e ∙ read-int v p y h)
   atom-stands (bytes bs) p y h e =
-      let t : tokenAt w p ≡ K.Bytes (p + length (headOf (length bs))) (length bs) (p + length (encBytes bs)) = ap (tokenOf p) e ∙ read-bytes bs p y in
-      (At.bytes (p + length (headOf (length bs))) (length bs), ap bytes (inner p bs y e), t, (omega (arith, lies p _ _ _ t, bytes-length bs), h))
+      (At.bytes (p + length (headOf (length bs))) (length bs), ap bytes (inner p bs y e), ap (tokenOf p) e ∙ read-bytes bs p y)
 
   -- ---- a value
   abbrev pub Stand : Plain → ℕ → ℕ → ℕ → Type 0
-  Stand x d p q = (v : At.Value) × (plainIn w v ≡ x) × Nests v d × Row (tokenAt w) p (toks v) q × All (Sound (length w)) (toks v)
+  Stand x d p q = (v : At.Value) × (plainIn w v ≡ x) × Nests v d × Row (tokenAt w) p (toks v) q
 
   abbrev AllStand : Plains → ℕ → ℕ → ℕ → Type 0
-  AllStand xs d p q = (vs : At.Values) × (plainsIn w vs ≡ xs) × AllNest vs d × Row (tokenAt w) p (toksAll vs) q × All (Sound (length w)) (toksAll vs)
+  AllStand xs d p q = (vs : At.Values) × (plainsIn w vs ≡ xs) × AllNest vs d × Row (tokenAt w) p (toksAll vs) q
 
   mutual
     unfolding encValue plainIn toks
@@ -72,12 +61,12 @@ module _ (w : List ℕ) where
     pub value-stands : (x : Plain) (d p q : ℕ) (y : List ℕ) → Within x d → drop p w ≡ encValue x ++ y → q ≡ p + length (encValue x) → Stand x d p q
     value-stands (atom a) d p q y h e f =
         let s = atom-stands a p y h e in
-        (At.atom (s .0), ap atom (s .1), tt, (q, s .2 ∙ ap (tokTo (leaf (s .0))) (sym f), refl), (s .3, tt))
+        (At.atom (s .0), ap atom (s .1), tt, (q, s .2 ∙ ap (tokTo (leaf (s .0))) (sym f), refl))
     value-stands (list xs) zero p q y h e f = absurd h
     value-stands (list xs) (suc d) p q y h e f =
         let m = mark-stands 0xf0 p (encValues xs ++ y) (lit≤ tt) (lit≤ tt) e in
         let s = values-stand xs d (p + 1) q y h (m .1) (omega arith) in
-        (At.list (p + 1) (s .0), ap list (s .1), s .2, (p + 1, m .0, s .3), (m .2, s .4))
+        (At.list (p + 1) (s .0), ap list (s .1), s .2, (p + 1, m .0, s .3))
     value-stands (named a x) zero p q y h e f = absurd h
     value-stands (named a x) (suc d) p q y h e f =
         let m = mark-stands 0xf2 p ((encAtom a ++ (encValue x ++ (0xf3 ∷ []))) ++ y) (lit≤ tt) (lit≤ tt) e in
@@ -93,13 +82,12 @@ module _ (w : List ℕ) where
           rw (s .1, v .1),
           v .2,
           (p + 1, m .0, (r, s .2, join (tokenAt w) r z q (toks (v .0)) (mark 0xf3 ∷ []) (v .3) (z + 1, n .0, k))),
-          (m .2, (s .3, all-join (Sound (length w)) (toks (v .0)) (mark 0xf3 ∷ []) (v .4) (n .2, tt))),
         )
 
     values-stand : (xs : Plains) (d p q : ℕ) (y : List ℕ) → AllWithin xs d → drop p w ≡ encValues xs ++ y → q ≡ p + length (encValues xs) → AllStand xs d p q
     values-stand none d p q y h e f =
         let m = mark-stands 0xf1 p y (lit≤ tt) (lit≤ tt) e in
-        (At.none, refl, tt, (p + 1, m .0, sym f), (m .2, tt))
+        (At.none, refl, tt, (p + 1, m .0, sym f))
     values-stand (more x xs) d p q y h e f =
         let e₁ : drop p w ≡ encValue x ++ (encValues xs ++ y) = e ∙ append-assoc (encValue x) (encValues xs) y in
         let r : ℕ = p + length (encValue x) in
@@ -109,18 +97,17 @@ module _ (w : List ℕ) where
           rw (v .1, s .1),
           (v .2, s .2),
           join (tokenAt w) p r q (toks (v .0)) (toksAll (s .0)) (v .3) (s .3),
-          all-join (Sound (length w)) (toks (v .0)) (toksAll (s .0)) (v .4) (s .4),
         )
 
   -- where the bytes of x stand, x is read
   abbrev pub Found : Plain → ℕ → ℕ → ℕ → Type 0
-  Found x d p q = (v : At.Value) × (valueAt w d p ≡ ok v q) × (plainIn w v ≡ x) × All (Sound (length w)) (toks v)
+  Found x d p q = (v : At.Value) × (valueAt w d p ≡ ok v q) × (plainIn w v ≡ x)
 
   pub value-found : (x : Plain) (d p : ℕ) (y : List ℕ) → Within x d → drop p w ≡ encValue x ++ y → Found x d p (p + length (encValue x))
   value-found x d p y h e =
       let s = value-stands x d p (p + length (encValue x)) y h e refl in
       let r = value-back (tokenAt w) (length w) (token-ends w) (s .0) d p (p + length (encValue x)) (s .2) (s .3) in
-      (r .0, r .1, r .2 .0 w ∙ s .1, rw (r .2 .1) (s .4))
+      (r .0, r .1, r .2 w ∙ s .1)
 
 pub round-trip : RoundTrip
 round-trip a b x d h =

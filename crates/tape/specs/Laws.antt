@@ -26,12 +26,16 @@ RoundTrip = (a b : List ℕ) (x : Plain) (d : ℕ) → Within x d
 abbrev pub Below : ℕ → List ℕ → Type 0
 Below b l = (i : ℕ) → getD l i 0 < b
 
--- a value on a tape, written into a buffer and read from there to another tape, is the same value
-abbrev pub ThereAndBack : Type 0
-ThereAndBack = (t bs out u : List ℕ) (i at z k j y : ℕ) → Below (2 ^ 64) t
-    → (w : List ℕ) → w ≡ wroteAll bs out at (treeAt t bs 16 i) → wroteEnd bs (length out) at (treeAt t bs 16 i) ≡ P.At z
-    → (r : List ℕ) → r ≡ tookAll u k (valueAt w 16 at) → tookEnd (length u) k (valueAt w 16 at) ≡ T.At j y
-    → (x : Plain) × (q : ℕ) × Says bs (treeAt t bs 16 i) x q × Says w (treeAt r w 16 k) x j × (y ≡ z)
+-- where the writer answers a place, the bytes that it leaves read as the value on the tape and end there
+abbrev pub Written : Type 0
+Written = (t bs out : List ℕ) (i at z : ℕ) → Below (2 ^ 64) t → wroteEnd bs (length out) at (treeAt t bs 16 i) ≡ P.At z
+    → (x : Plain) × (q : ℕ) × Says bs (treeAt t bs 16 i) x q
+    × Says (wroteAll bs out at (treeAt t bs 16 i)) (valueAt (wroteAll bs out at (treeAt t bs 16 i)) 16 at) x z
+
+-- where the reader answers a node and a place, the tape that it leaves says the very value that stands in the bytes
+abbrev pub Laid : Type 0
+Laid = (s u : List ℕ) (p k j y : ℕ) → Below 256 s → tookEnd (length u) k (valueAt s 16 p) ≡ T.At j y
+    → (x : Plain) × Says s (valueAt s 16 p) x y × Says s (treeAt (tookAll u k (valueAt s 16 p)) s 16 k) x j
 
 -- no bytes that read as the same value are fewer than the writer's
 abbrev pub NotLonger : List ℕ → ℕ → Out Value → Type 0

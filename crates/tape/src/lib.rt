@@ -16,7 +16,7 @@ ghost use Rattle.value.specs.Source.{nodeAt, treeAt};
 ghost use Rattle.tape.specs.Write.{wroteEnd, wroteAll};
 ghost use Rattle.tape.specs.Words.{tookEnd, tookAll};
 ghost use Rattle.tape.specs.Steps.{encToken, tokenWords, nextOf, bytesIn, wordsIn};
-ghost use Rattle.tape.specs.Laws.{RoundTrip, ThereAndBack, Shortest};
+ghost use Rattle.tape.specs.Laws.{RoundTrip, Written, Laid, Shortest};
 
 // How deep lists and named values nest.
 const DEPTH: usize = 16;
@@ -279,9 +279,14 @@ pub fn law_round_trip()
     ensures { λ _. ⌜ RoundTrip ⌝ }
 {}
 
-// From one tape by a buffer to another it is the same value.
-pub fn law_there_and_back()
-    ensures { λ _. ⌜ ThereAndBack ⌝ }
+// What is written from a tape stands in the bytes: the same value, up to the place that is answered.
+pub fn law_written()
+    ensures { λ _. ⌜ Written ⌝ }
+{}
+
+// What is read to a tape stands on it: the same value, up to the node that is answered.
+pub fn law_laid()
+    ensures { λ _. ⌜ Laid ⌝ }
 {}
 
 // The writer's output is the shortest form.

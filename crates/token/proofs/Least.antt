@@ -1,4 +1,4 @@
--- No form that is read is shorter than the one that is written, and none runs past the input.
+-- No form that is read is shorter than the one that is written, none runs past the input, and none holds more bytes than can be written.
 use Prim.Native.Nat.{ℕ, suc, _+_, _*_, _%_, _^_, _≤_, _<_}
 use mathlib.Core.Path.{_≡_, refl}
 use mathlib.Core.List.{List, [], _∷_}
@@ -16,7 +16,7 @@ use Rattle.token.specs.declared.Token.{Token}
 use Rattle.token.specs.declared.Token.the-variants as K
 use Rattle.token.specs.Bytes.{within, beVal}
 use Rattle.token.specs.Token.{isControl, atomOf, mediumOf, longOf, formOf, leadOf, tokenOf, tokenAt, bit}
-use Rattle.token.specs.Write.{encInt, headOf}
+use Rattle.token.specs.Write.{encInt, headOf, maxBytes}
 use Rattle.token.specs.Laws.{Takes, shortest, Shortest}
 use Rattle.token.proofs.Laws.{lt-or-le}
 use Rattle.token.proofs.Tokens.{token-none}
@@ -52,26 +52,26 @@ holds b =
     cond-all (Holds b) (isControl b) L.Control _ (λ _. tt) λ _.
     cond-all (Holds b) (eqb b 0xff) L.Empty L.Broken (λ _. tt) (λ _. tt)
 
--- ---- from p the token t takes at least what the writer takes, and it ends within n
+-- ---- from p the token t takes at least what the writer takes, it ends within n, and its bytes are not too many for an atom
 abbrev Spans : ℕ → ℕ → Token → Type 0
 Spans p n (K.Int v q) = (p + length (encInt v) ≤ q) × (q ≤ n)
-Spans p n (K.Bytes st len q) = (p + length (headOf len) + len ≤ q) × (q ≤ n) × (st + len ≡ q)
+Spans p n (K.Bytes st len q) = (p + length (headOf len) + len ≤ q) × (q ≤ n) × (st + len ≡ q) × (len < maxBytes)
 Spans p n (K.Control c q) = (p + 1 ≤ q) × (q ≤ n)
 Spans p n K.End = Unit {0}
 Spans p n K.Broken = Unit {0}
 
 wider : (p p′ n n′ : ℕ) (t : Token) → p ≤ p′ → n′ ≤ n → Spans p′ n′ t → Spans p n t
 wider p p′ n n′ (K.Int v q) h k a = (omega arith, omega arith)
-wider p p′ n n′ (K.Bytes st len q) h k a = (omega arith, omega arith, a .2)
+wider p p′ n n′ (K.Bytes st len q) h k a = (omega arith, omega arith, a .2, a .3)
 wider p p′ n n′ (K.Control c q) h k a = (omega arith, omega arith)
 wider p p′ n n′ K.End h k a = tt
 wider p p′ n n′ K.Broken h k a = tt
 
-atom-spans : (p₀ p : ℕ) (k : Bool) (n : ℕ) (l : List ℕ) → p₀ + length (headOf n) ≤ p → Small l → Spans p₀ (p + length l) (atomOf k n p l)
+atom-spans : (p₀ p : ℕ) (k : Bool) (n : ℕ) (l : List ℕ) → p₀ + length (headOf n) ≤ p → n < maxBytes → Small l → Spans p₀ (p + length l) (atomOf k n p l)
 unfolding atomOf
-atom-spans p₀ p true n l u s =
-    cond-all (Spans p₀ (p + length l)) (leb n (length l)) (K.Bytes p n (p + n)) K.Broken (λ e. let f = leb-true n (length l) e in (omega arith, omega arith, refl)) (λ _. tt)
-atom-spans p₀ p false n l u s = go (within 1 8 n) (leb n (length l)) refl refl
+atom-spans p₀ p true n l u m s =
+    cond-all (Spans p₀ (p + length l)) (leb n (length l)) (K.Bytes p n (p + n)) K.Broken (λ e. let f = leb-true n (length l) e in (omega arith, omega arith, refl, m)) (λ _. tt)
+atom-spans p₀ p false n l u m s = go (within 1 8 n) (leb n (length l)) refl refl
   where
     go : (t w : Bool) → within 1 8 n ≡ t → leb n (length l) ≡ w → Spans p₀ (p + length l) (cond (t && w) (K.Int (beVal 0 (take n l)) (p + n)) K.Broken)
     go true true d e =
@@ -86,18 +86,19 @@ form-spans : (p : ℕ) (k : Lead) (b : ℕ) (l : List ℕ) (t : Token) → Holds
 unfolding formOf mediumOf longOf
 form-spans p L.Tiny b l t h s a = (omega (arith, tiny-length b h), omega arith)
 form-spans p (L.Short k n) b l t h s a =
-    wider p p _ _ (atomOf k n (p + 1) l) (omega arith) (omega arith) (atom-spans p (p + 1) k n l (omega (arith, len-one n h)) s)
+    wider p p _ _ (atomOf k n (p + 1) l) (omega arith) (omega arith) (atom-spans p (p + 1) k n l (omega (arith, len-one n h)) (omega arith) s)
 form-spans p (L.Medium k g) b [] t h s a = tt
 form-spans p (L.Medium k g) b (x ∷ l) t h s a =
     let n : ℕ = g * 256 + x in
     let u : n < 2048 = omega (arith, s 0) in
-    wider p p _ _ (atomOf k n (p + 1 + 1) l) (omega arith) (omega arith) (atom-spans p (p + 1 + 1) k n l (omega (arith, head-some n .1 u)) (λ i. s (suc i)))
+    wider p p _ _ (atomOf k n (p + 1 + 1) l) (omega arith) (omega arith) (atom-spans p (p + 1 + 1) k n l (omega (arith, head-some n .1 u)) (omega arith) (λ i. s (suc i)))
 form-spans p (L.Long k) b [] t h s a = tt
 form-spans p (L.Long k) b (x ∷ []) t h s a = tt
 form-spans p (L.Long k) b (x ∷ y ∷ []) t h s a = tt
 form-spans p (L.Long k) b (x ∷ y ∷ z ∷ l) t h s a =
     let n : ℕ = x * 65536 + y * 256 + z in
-    wider p p _ _ (atomOf k n (p + 1 + 3) l) (omega arith) (omega arith) (atom-spans p (p + 1 + 3) k n l (omega (arith, head-some n .2)) (λ i. s (suc (suc (suc i)))))
+    let u : n < maxBytes = omega (arith, s 0, s 1, s 2) in
+    wider p p _ _ (atomOf k n (p + 1 + 3) l) (omega arith) (omega arith) (atom-spans p (p + 1 + 3) k n l (omega (arith, head-some n .2)) u (λ i. s (suc (suc (suc i)))))
 form-spans p L.Control b l t h s a = (omega arith, omega arith)
 form-spans p L.Empty b l t h s a = wider p (p + 1) _ _ t (omega arith) (omega arith) a
 form-spans p L.Broken b l t h s a = tt
@@ -127,3 +128,7 @@ least s p b = go (tokenAt s p) (spans s p b)
     go (K.Control c q) a = a
     go K.End a = tt
     go K.Broken a = tt
+
+-- bytes that are read lie in the input and are not too many for an atom
+pub bytes-fit : (s : List ℕ) (p st len q : ℕ) → Small s → tokenAt s p ≡ K.Bytes st len q → (st + len ≤ length s) × (len < maxBytes)
+bytes-fit s p st len q b e = let h : Spans p (length s) (K.Bytes st len q) = rw e at (spans s p b) in (omega arith, h .3)
