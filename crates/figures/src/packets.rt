@@ -5,6 +5,7 @@ use packet::Opened;
 use packet::Tsn;
 use payload::Payload;
 use token::Put;
+ghost use Prim.Native.Nat.{_<_, _≤_};
 
 // What the packet s says.
 fn said(s: &[u8]) {
@@ -96,6 +97,110 @@ fn wrong(at: usize, b: u8) {
     whole(&s);
 }
 
+// 1 if the packet s is opened, and 0 if not.
+fn opens(s: &[u8]) -> usize
+    ensures { λ r. ⌜ r ≤ 1 ⌝ }
+{
+    let o = packet::open(s);
+    let Opened::Broken = o else {
+        return 1;
+    };
+    0
+}
+
+// 1 if the payload s is one, and 0 if not.
+fn parses(s: &[u8]) -> usize
+    ensures { λ r. ⌜ r ≤ 1 ⌝ }
+{
+    let p = payload::parse(s, 0);
+    let Payload::Broken = p else {
+        return 1;
+    };
+    0
+}
+
+// 1 if the first n bytes of s are taken, as a packet or as a payload.
+fn taken(s: &[u8], n: usize, packets: bool) -> usize
+    ensures { λ r. ⌜ r ≤ 1 ⌝ }
+{
+    if s.len() < n {
+        return 0;
+    }
+    if packets {
+        return opens(&s[..n]);
+    }
+    parses(&s[..n])
+}
+
+// How many of the places at which s can be cut leave a packet, or a payload.
+fn cuts(s: &[u8], packets: bool) -> usize {
+    let mut count: usize = 0;
+    let mut n: usize = 0;
+    while n < s.len() {
+        count += taken(s, n, packets);
+        n += 1;
+    }
+    count
+}
+
+fn cut(s: &[u8], packets: bool) {
+    say::text(b"  of ");
+    say::size(s.len());
+    say::text(b" cuts ");
+    say::size(cuts(s, packets));
+    say::text(b" are taken\n");
+}
+
+// Where byte i goes if a place is left at at.
+fn shifted(i: usize, at: usize) -> usize
+    requires { ⌜ i < 39 ⌝ }
+    ensures { λ r. ⌜ r < 40 ⌝ }
+{
+    if i < at {
+        return i;
+    }
+    i + 1
+}
+
+// The payload s with what stands in out at at between its bytes.
+fn insert(out: &mut [u8; 40], s: &[u8], at: usize) {
+    let mut i = 0;
+    while i < s.len() {
+        if 39 <= i {
+            return;
+        }
+        let to = shifted(i, at);
+        out[to] = s[i];
+        i += 1;
+    }
+}
+
+fn parsed(s: &[u8; 40]) -> usize
+    ensures { λ r. ⌜ r ≤ 1 ⌝ }
+{
+    parses(s)
+}
+
+// 1 if the payload s is still one with an F9 at at.
+fn stray(s: &[u8], at: usize) -> usize
+    ensures { λ r. ⌜ r ≤ 1 ⌝ }
+{
+    let mut out = [0xf9u8; 40];
+    insert(&mut out, s, at);
+    parsed(&out)
+}
+
+// At how many of the places the payload s takes a stray F9.
+fn strays(s: &[u8], places: &[u8]) -> usize {
+    let mut count: usize = 0;
+    let mut n: usize = 0;
+    while n < places.len() {
+        count += stray(s, places[n] as usize);
+        n += 1;
+    }
+    count
+}
+
 fn kind(s: &[u8]) {
     say::text(b"  ");
     say::hex(s);
@@ -161,6 +266,25 @@ pub fn run() {
     wrong(19, 0x27);
     wrong(19, 0x29);
     wrong(52, 0xff);
+    say::text(b"  all three lengths 4294967295: ");
+    whole(
+        b"\x00\x00\x00\x00\x10\x00\x00\x00\x00\x00\x00\x00\x00\x00\x00\x00\xff\xff\xff\xff\x00\x00\x00\x01\x00\x00\x00\x69\x00\x00\x00\x00\x00\x00\x00\x00\x00\x00\x00\x00\xff\xff\xff\xff\x00\x00\x00\x00\x00\x00\x00\x00\xff\xff\xff\xff\xfa\x00\x00\x00",
+    );
+    say::text(b"The end of session and a StartSession's payload, cut after every byte\n");
+    cut(
+        b"\x00\x00\x00\x00\x10\x00\x00\x00\x00\x00\x00\x00\x00\x00\x00\x00\x00\x00\x00\x28\x00\x00\x00\x01\x00\x00\x00\x69\x00\x00\x00\x00\x00\x00\x00\x00\x00\x00\x00\x00\x00\x00\x00\x10\x00\x00\x00\x00\x00\x00\x00\x00\x00\x00\x00\x01\xfa\x00\x00\x00",
+        true,
+    );
+    cut(
+        b"\xf8\xa8\x00\x00\x00\x00\x00\x00\x00\xff\xa8\x00\x00\x00\x00\x00\x00\xff\x02\xf0\x81\x69\xa8\x00\x00\x02\x05\x00\x00\x00\x01\x01\xf1\xf9\xf0\x00\x00\x00\xf1",
+        false,
+    );
+    say::text(b"  of the 15 places between its tokens ");
+    say::size(strays(
+        b"\xf8\xa8\x00\x00\x00\x00\x00\x00\x00\xff\xa8\x00\x00\x00\x00\x00\x00\xff\x02\xf0\x81\x69\xa8\x00\x00\x02\x05\x00\x00\x00\x01\x01\xf1\xf9\xf0\x00\x00\x00\xf1",
+        b"\x00\x01\x0a\x13\x14\x16\x1f\x20\x21\x22\x23\x24\x25\x26\x27",
+    ));
+    say::text(b" take a stray F9\n");
     say::text(b"Payloads\n");
     kind(b"\xfa");
     kind(b"\xff\xfa\xff");
