@@ -17,10 +17,11 @@ use Rattle.params.specs.declared.Proof.the-variants as Q
 use Rattle.params.specs.declared.Columns.{Columns}
 use Rattle.value.specs.Value.{Values}
 use Rattle.value.specs.Read.{Out}
-use Rattle.model.specs.Types.{Tsn, Hsn, Cells, Vault, Card, Object, Who, Change, Decision}
+use Rattle.model.specs.Types.{Tsn, Hsn, Cells, Vault, Card, Object, Who, Change, Decision, Judged}
 use Rattle.model.specs.declared.Who.the-variants as W
 use Rattle.model.specs.declared.Decision.the-variants as D
-use Rattle.model.specs.Judge.{Judged, settled, compare, need, Ends, judgeWho, judgeStart, judgeManager, judgeProof, judgeGet, judgeSet, judgeBare, judgeMethod}
+use Rattle.model.specs.declared.Judged.the-variants.{Settled, Compare}
+use Rattle.model.specs.Judge.{need, Ends, judgeWho, judgeStart, judgeManager, judgeProof, judgeGet, judgeSet, judgeBare, judgeMethod}
 use Rattle.model.specs.Vault.{decided}
 use Rattle.model.specs.Step.{Heard, turned, judged, hearManager, judgeSession, hearPacket, heard, Event, packet, powered, wasReset, asked}
 use Rattle.model.specs.Seen.{took, taken, takenOf}
@@ -46,11 +47,11 @@ Fits c D.Ended = Unit {0}
 Fits c D.Broke = Unit {0}
 
 unfoldable FitsAll : Cells → Judged → Type 0
-FitsAll c (settled d) = Fits c d
-FitsAll c (compare r p n equal differs) = Fits c equal × Fits c differs
+FitsAll c (Settled d) = Fits c d
+FitsAll c (Compare r p n equal differs) = Fits c equal × Fits c differs
 
 module _ (c : Cells) where
-  ends : (d : Decision) → Fits c d → FitsAll c (settled d)
+  ends : (d : Decision) → Fits c d → FitsAll c (Settled d)
   unfolding FitsAll
   ends d f = f
 
@@ -161,18 +162,18 @@ unfolding heard
 by-heard k room s = search (one-of, away, by-packet)
 
 module _ (c : Cells) where
-  both : (r p n : ℕ) (x y : Decision) → FitsAll c (compare r p n x y) → FitsAll c (settled x) × FitsAll c (settled y)
+  both : (r p n : ℕ) (x y : Decision) → FitsAll c (Compare r p n x y) → FitsAll c (Settled x) × FitsAll c (Settled y)
   unfolding FitsAll
   both r p n x y f = f
 
-  chosen : (b : Bool) (x y : Decision) → FitsAll c (settled x) → FitsAll c (settled y) → FitsAll c (settled (cond b x y))
+  chosen : (b : Bool) (x y : Decision) → FitsAll c (Settled x) → FitsAll c (Settled y) → FitsAll c (Settled (cond b x y))
   chosen true x y f g = f
   chosen false x y f g = g
 
-  answers : (v : Vault) (s : List ℕ) (j : Judged) → FitsAll c j → FitsAll c (settled (decided v s j))
+  answers : (v : Vault) (s : List ℕ) (j : Judged) → FitsAll c j → FitsAll c (Settled (decided v s j))
   unfolding decided
-  answers v s (settled d) f = f
-  answers v s (compare r p n x y) f = let g = both r p n x y f in search chosen
+  answers v s (Settled d) f = f
+  answers v s (Compare r p n x y) f = let g = both r p n x y f in search chosen
 
 by-taken : (k : Card) (h : Heard) → FitsHeard (k .cells) h → (s : List ℕ) (d : Decision) → takenOf k h ≡ took s d → Fits (k .cells) d
 unfolding takenOf FitsAll FitsHeard

@@ -11,7 +11,7 @@ use Rattle.item.specs.declared.Slot.{Slot}
 use Rattle.item.specs.declared.Slot.the-variants as S
 use Rattle.ranges.specs.Row.{rowCount}
 use Rattle.ranges.specs.Set.{setOk}
-use Rattle.model.specs.Types.{Tsn, Hsn, Cells, Vault, Object, Who, Change, Decision}
+use Rattle.model.specs.Types.{Tsn, Hsn, Cells, Vault, Object, Who, Change, Decision, Judged}
 use Rattle.model.specs.declared.Object.the-variants as O
 use Rattle.model.specs.declared.Who.the-variants as W
 use Rattle.model.specs.declared.Change.the-variants as C
@@ -19,7 +19,7 @@ use Rattle.model.specs.declared.Decision.the-variants as D
 use Rattle.model.specs.Record as R
 use Rattle.model.specs.Uids as U
 use Rattle.model.specs.Judge as J
-use Rattle.model.specs.Judge.{Judged, settled, compare}
+use Rattle.model.specs.declared.Judged.the-variants.{Settled, Compare}
 use Rattle.model.specs.Vault.{matches, part, decided}
 use Rattle.model.specs.Step.{Heard, turned, judged}
 
@@ -68,8 +68,8 @@ Legal c D.Broke = c .session .live ≡ true
 
 -- of what is judged, whatever the vault answers
 pub data Fair (c : Cells) : Judged → Type 0 where
-  surely : {d : Decision} → Legal c d → Fair c (settled d)
-  either : {r p n : ℕ} {equal differs : Decision} → Legal c equal → Legal c differs → Fair c (compare r p n equal differs)
+  surely : {d : Decision} → Legal c d → Fair c (Settled d)
+  either : {r p n : ℕ} {equal differs : Decision} → Legal c equal → Legal c differs → Fair c (Compare r p n equal differs)
 
 pub data FairHeard (c : Cells) : Heard → Type 0 where
   away : {n : ℕ} → FairHeard c (turned n)
@@ -86,7 +86,7 @@ fair-decided c v s (surely f) = f
 fair-decided c v s (either {r = r} {p = p} {n = n} f g) = picked c (matches v r (part s p n)) _ _ f g
 
 -- ---- how the checks are walked
-pub need-ind : (F : Judged → Type 0) (b : Bool) (d : Decision) (j : Judged) → F (settled d) → (b ≡ true → F j) → F (J.need b d j)
+pub need-ind : (F : Judged → Type 0) (b : Bool) (d : Decision) (j : Judged) → F (Settled d) → (b ≡ true → F j) → F (J.need b d j)
 unfolding J.need
 need-ind F true d j x f = f refl
 need-ind F false d j x f = x

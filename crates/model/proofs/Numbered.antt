@@ -19,7 +19,7 @@ use Rattle.model.specs.Types.{Tables, Card}
 use Rattle.model.specs.Sound.{sound}
 use Rattle.model.specs.Apply.{settledTables}
 use Rattle.model.specs.Step as Z
-use Rattle.model.specs.Step.{Heard, turned, Reply, Ruling, unsound, ruled, replyTo, hearManager, hearPacket, heard, command, power, reset, media}
+use Rattle.model.specs.Step.{Heard, turned, Reply, rulingNumber, replyTo, hearManager, hearPacket, heard, command, power, reset, media}
 use Rattle.model.specs.Numbers.{First, Neither, NoCall, Numbered, Disabled, NumbersInOrder, NeverUnsound}
 use Rattle.model.proofs.Soundness.{dec-on, dec-off, dec-eq}
 use Rattle.model.proofs.Reached.{always-sound}
@@ -142,8 +142,17 @@ was-reset k =
     ask (λ (r : Reply). r .number) (λ n. First n 7 (Disabled k) (n ≡ 0)) 1 (not (sound k)) _ _ (dec-off (sound k)) refl
     (ask (λ (r : Reply). r .number) (λ n. n ≡ 0) 7 _ _ _ (disabled-decides k) refl refl)
 
+questioned : (k : Card) (write : Bool) (start count : ℕ)
+    → First (rulingNumber (media k write start count)) 1 (sound k ≡ false) (rulingNumber (media k write start count) ≡ 0)
+unfolding media rulingNumber
+questioned k write start count = go (sound k) refl
+  where
+    go : (b : Bool) → sound k ≡ b → First (rulingNumber (media k write start count)) 1 (sound k ≡ false) (rulingNumber (media k write start count) ≡ 0)
+    go true e = inr (λ f. true≢false (sym e ∙ f), rw e refl)
+    go false e = inl (e, rw e refl)
+
 pub numbers-in-order : NumbersInOrder
-numbers-in-order = record { packets = numbered; powers = powered; resets = was-reset }
+numbers-in-order = record { packets = numbered; powers = powered; resets = was-reset; media = questioned }
 
 -- ---- number 1 only where the record is unsound
 past : {n i : ℕ} {P R : Type 0} → (P → i ≢ 1) → First n i P R → (R → n ≢ 1) → n ≢ 1
@@ -170,13 +179,9 @@ sound-power : (k : Card) → sound k ≡ true → power k .number ≡ 0
 unfolding power
 sound-power k t = rw t refl
 
-abbrev isUnsound : Ruling → Bool
-isUnsound unsound = true
-isUnsound (ruled v) = false
-
-sound-media : (k : Card) (write : Bool) (start count : ℕ) → sound k ≡ true → media k write start count ≢ unsound
-unfolding media
-sound-media k write start count t = rw t (λ e. true≢false (sym (ap isUnsound e)))
+sound-media : (k : Card) (write : Bool) (start count : ℕ) → sound k ≡ true → rulingNumber (media k write start count) ≡ 0
+unfolding media rulingNumber
+sound-media k write start count t = rw t refl
 
 pub never-unsound : NeverUnsound
 never-unsound = record {

@@ -6,6 +6,7 @@ use mathlib.Core.List.{List, [], _∷_}
 use mathlib.Core.Logic.{_≢_, ⊎-elim}
 use native.Mathlib.Omega.{arith}
 use lib.ListN.{set, length-set}
+use borrow.Author.Tests.{le-leb, lt-ltb}
 use lib.Dec.{ltb}
 use Rattle.ranges.proofs.Decide.{is-true, le-or-lt}
 use Rattle.ranges.proofs.Shares.{shares-total, share-range}
@@ -148,8 +149,9 @@ by-change : (k : Card) (s : List ℕ) (x : Change) → LegalChange (k .cells) x 
 unfolding A.apply A.change Y.obey Y.obeyChange
 by-change k s C.Nothing f h = h
 by-change k s (C.PutPin r p n) f h =
-    with-live (celled k (R.withTries (k .cells) r 0)) (with-tries k h r 0 (omega arith)) _
-    (Parts.put-secret (k .vault .live) r _ (Parts.secret-of (Y.part s p n) (Parts.part-of s p n (f .1))) (h .live))
+    rw (le-leb _ _ (f .1))
+    (with-live (celled k (R.withTries (k .cells) r 0)) (with-tries k h r 0 (omega arith)) _
+    (Parts.put-secret (k .vault .live) r _ (Parts.secret-of (Y.part s p n) (Parts.part-of s p n (f .1))) (h .live)))
 by-change k s (C.PutEnabled r on) f h = with-tables k h _ (Parts.put-enabled _ _ (h .tables) r on (f .0)) (Parts.re-tabled _ _ _ (λ _ a. a) (h .session))
 by-change k s (C.PutRange i e) f h = with-tables k h _ (Parts.put-range _ _ (h .tables) i e f) (Parts.re-tabled _ _ _ (λ _ a. a) (h .session))
 by-change k s (C.PutMbr e) f h = with-tables k h _ (Parts.put-mbr _ _ (h .tables) _) (Parts.re-tabled _ _ _ (λ _ a. a) (h .session))
@@ -200,14 +202,17 @@ by-proof k h l L.anybody = proved k h l L.anybody
 by-proof k h l L.class = proved k h l L.class
 by-proof k h l (L.row {r = r} x) = proved _ (with-tries k h r 0 (omega arith)) l (L.row x)
 
+counted : (t : ℕ) → t < R.tryLimit → cond (ltb t R.tryLimit) (t + 1) t ≤ 5
+counted t l = rw (lt-ltb _ _ l) (omega arith)
+
 by-decision : (k : Card) (s : List ℕ) (d : Decision) → Legal (k .cells) d → SoundRecord k → SoundRecord (after k s d)
 unfolding A.apply Y.obey
 by-decision k s (D.Refuse e) f h = h
 by-decision k s (D.NotStarted e) f h = h
-by-decision k s (D.Missed r) f h = with-tries k h r _ (omega arith)
+by-decision k s (D.Missed r) f h = with-tries k h r _ (counted _ (f .1))
 by-decision k s (D.Started locking hsn w) f h = by-start k h locking hsn (f .0) (f .1) (f .2)
 by-decision k s D.Denied f h = h
-by-decision k s (D.Mistaken r) f h = with-tries k h r _ (omega arith)
+by-decision k s (D.Mistaken r) f h = with-tries k h r _ (counted _ (f .1))
 by-decision k s (D.Proved w) f h = by-proof k h (f .0) (f .1)
 by-decision k s (D.Told o first last) f h = h
 by-decision k s (D.Done x) f h = by-change k s x (f .1) h

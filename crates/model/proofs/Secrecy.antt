@@ -3,9 +3,9 @@ use Prim.Native.Nat.{ℕ}
 use mathlib.Core.Path.{_≡_, refl, ap, ap₂}
 use mathlib.Core.Bool.{true, cond}
 use mathlib.Core.List.{List, [], _∷_}
-use Rattle.model.specs.Types.{Card}
+use Rattle.model.specs.Types.{Card, Judged}
 use Rattle.model.specs.Sound.{sound}
-use Rattle.model.specs.Judge.{Judged, settled, compare}
+use Rattle.model.specs.declared.Judged.the-variants.{Settled, Compare}
 use Rattle.model.specs.Vault.{part, matches, decided}
 use Rattle.model.specs.Step.{Heard, turned, judged, heard, replyTo, power, reset, media, Event, packet, powered, wasReset, asked, next}
 use Rattle.model.specs.Seen.{ofReply, sees, trace, answered, ofHeard, ofJudged}
@@ -26,8 +26,8 @@ heard-alike j k room s a = rw (a .first, a .other, a .cells) refl
 -- and decided by the answer
 decided-alike : (j k : Card) (s : List ℕ) (x : Judged) → ofJudged j s x ≡ ofJudged k s x → decided (j .vault) s x ≡ decided (k .vault) s x
 unfolding ofJudged decided
-decided-alike j k s (settled d) e = refl
-decided-alike j k s (compare r p n equal differs) e =
+decided-alike j k s (Settled d) e = refl
+decided-alike j k s (Compare r p n equal differs) e =
     let q : matches (j .vault) r (part s p n) ≡ matches (k .vault) r (part s p n) = cc in
     ap (λ b. cond b equal differs) q
 

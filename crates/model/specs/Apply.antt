@@ -28,6 +28,13 @@ ended c = R.withSession (closed c (settledTables c)) R.noSession
 abbrev pub nextTsn : Tsn → Tsn
 nextTsn x = record { 0 = cond (ltb (x .0) 0xffffffff) (x .0 + 1) 1 }
 
+-- "PIN differs, Tries + 1"; a counter at the limit is not asked, and stays
+abbrev pub missedRow : PinRow → PinRow
+missedRow p = record { tries = cond (ltb (p .tries) R.tryLimit) (p .tries + 1) (p .tries) }
+
+abbrev pub missed : Cells → ℕ → Cells
+missed c r = R.withPins c (set (c .pins) r (missedRow (R.pinRowAt (c .pins) r)))
+
 -- "the authority is proved"; Anybody needs no proof
 unfoldable pub proving : List Bool → Who → List Bool
 proving l W.Unknown = l
@@ -75,10 +82,10 @@ change c C.RevertSp = R.withSession (R.withPins (R.withTables c (R.restoredLocki
 unfoldable pub apply : Cells → Decision → Cells
 apply c (D.Refuse k) = c
 apply c (D.NotStarted k) = c
-apply c (D.Missed r) = R.withTries c r (R.triesAt c r + 1)
+apply c (D.Missed r) = missed c r
 apply c (D.Started locking hsn w) = R.withNext (R.withSession (cleared c w) (startedSession c locking hsn w)) (nextTsn (c .next))
 apply c D.Denied = c
-apply c (D.Mistaken r) = R.withTries c r (R.triesAt c r + 1)
+apply c (D.Mistaken r) = missed c r
 apply c (D.Proved w) = R.withSession (cleared c w) (provedSession (c .session) w)
 apply c (D.Told o first last) = c
 apply c (D.Done x) = change c x

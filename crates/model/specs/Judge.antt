@@ -26,7 +26,8 @@ use Rattle.params.specs.declared.Resets.the-variants as X
 use Rattle.params.specs.Names.{given, nothing, uidOf}
 use Rattle.params.specs.Columns.{columnCount, columnAt, free, good}
 use Rattle.params.specs.Params.{noBlock, noColumns, noStart, noProof, getOf, setOf, startOf, proofOf, resetsAt}
-use Rattle.model.specs.Types.{Hsn, Tables, Session, Cells, Object, Who, Status, MbrEdit, Change, Decision}
+use Rattle.model.specs.Types.{Hsn, Tables, Session, Cells, Object, Who, Status, MbrEdit, Change, Decision, Judged}
+use Rattle.model.specs.declared.Judged.the-variants.{Settled, Compare}
 use Rattle.model.specs.declared.Object.the-variants as O
 use Rattle.model.specs.declared.Who.the-variants as W
 use Rattle.model.specs.declared.Status.the-variants as E
@@ -36,15 +37,10 @@ use Rattle.model.specs.Record.{tryLimit, pinBytes, triesAt, enabledAt}
 use Rattle.model.specs.Uids as U
 use Rattle.model.specs.Access.{inTable, allowed, allowedColumn, lastColumn, selfOf}
 
--- decided, or a PIN row to be compared with bytes of the request, and what follows where they are equal and where they differ
-pub data Judged : Type 0 where
-  settled : Decision → Judged
-  compare : ℕ → ℕ → ℕ → Decision → Decision → Judged
-
 -- go on where the test passes, and else be refused
 unfoldable pub need : Bool → Decision → Judged → Judged
 need true d j = j
-need false d j = settled d
+need false d j = Settled d
 
 -- ---- PINs: "class or disabled authority; Tries = 5; PIN differs"
 -- the bytes that are given: "an omitted challenge is an empty one"
@@ -70,13 +66,13 @@ pub record Ends : Type 0 where
   pub right : Who → Decision
 
 unfoldable pub judgeWho : Cells → Ends → Who → Slot → Judged
-judgeWho c e W.Unknown x = settled (e .barred)
-judgeWho c e W.Anybody x = settled (e .right W.Anybody)
-judgeWho c e W.Class x = settled (e .barred)
+judgeWho c e W.Unknown x = Settled (e .barred)
+judgeWho c e W.Anybody x = Settled (e .right W.Anybody)
+judgeWho c e W.Class x = Settled (e .barred)
 judgeWho c e (W.Row r) x =
     need (enabledAt (c .tables) r) (e .barred)
     (need (ltb (triesAt c r) tryLimit) (e .full)
-    (compare r (placeOf x) (countOf x) (e .right (W.Row r)) (e .wrong r)))
+    (Compare r (placeOf x) (countOf x) (e .right (W.Row r)) (e .wrong r)))
 
 unfoldable pub known : Who → Bool
 known W.Unknown = false
@@ -95,7 +91,7 @@ signer s locking S.Named = W.Unknown
 
 -- "session open, 07; shape, unknown SP, Locking SP inactive, Write not 1, challenge without authority, unknown authority, challenge over 32 bytes, 0C"
 unfoldable pub judgeStart : Cells → List ℕ → Start → Judged
-judgeStart c s T.Broken = settled (D.NotStarted E.InvalidParameter)
+judgeStart c s T.Broken = Settled (D.NotStarted E.InvalidParameter)
 judgeStart c s (T.Asked hsn sp write challenge authority) =
     need (eqb sp U.adminSp || eqb sp U.lockingSp) (D.NotStarted E.InvalidParameter)
     (need (imp (eqb sp U.lockingSp) (c .tables .active)) (D.NotStarted E.InvalidParameter)
@@ -121,7 +117,7 @@ judgeManager c s object method vs =
 
 -- ---- Authenticate: "same order from the unknown authority on, but class, disabled and wrong answer SUCCESS with 0, right with 1"
 unfoldable pub judgeProof : Cells → List ℕ → Proof → Judged
-judgeProof c s P.Broken = settled (D.Refuse E.InvalidParameter)
+judgeProof c s P.Broken = Settled (D.Refuse E.InvalidParameter)
 judgeProof c s (P.Asked authority proof) =
     need (known (U.whoIn (c .session .locking) authority)) (D.Refuse E.InvalidParameter)
     (need (leb (countOf proof) pinBytes) (D.Refuse E.InvalidParameter)
@@ -138,11 +134,11 @@ boundOf z (S.List p) = z
 boundOf z S.Named = z
 
 unfoldable pub judgeGet : Object → Block → Judged
-judgeGet o B.Broken = settled (D.Refuse E.InvalidParameter)
+judgeGet o B.Broken = Settled (D.Refuse E.InvalidParameter)
 judgeGet o (B.Of start end) =
     need (leb (boundOf 0 start) (lastColumn o) && leb (boundOf (lastColumn o) end) (lastColumn o)) (D.Refuse E.InvalidParameter)
     (need (leb (boundOf 0 start) (boundOf (lastColumn o) end)) (D.Refuse E.InvalidParameter)
-    (settled (D.Told o (boundOf 0 start) (boundOf (lastColumn o) end))))
+    (Settled (D.Told o (boundOf 0 start) (boundOf (lastColumn o) end))))
 
 -- ---- Set: values and their types
 unfoldable pub isNumber : Slot → Bool
@@ -273,7 +269,7 @@ judgeSet c s o t =
     (need (atGiven (λ k. leb k (lastColumn o)) t) (D.Refuse E.InvalidParameter)
     (need (atGiven (allowedColumn (c .session) o U.setMethod) t) (D.Refuse E.NotAuthorized)
     (need (valuesOk c s t o) (D.Refuse E.InvalidParameter)
-    (settled (D.Done (changeIn s t o))))))
+    (Settled (D.Done (changeIn s t o))))))
 
 -- ---- Activate, Revert, RevertSP: no parameters; "then FAIL in a transaction"
 unfoldable pub judgeBare : Cells → Object → ℕ → Bool → Change → Judged
@@ -281,7 +277,7 @@ judgeBare c o m bare x =
     need bare (D.Refuse E.InvalidParameter)
     (need (allowed (c .session) o m) (D.Refuse E.NotAuthorized)
     (need (not (c .undo .live)) (D.Refuse E.Fail)
-    (settled (D.Done x))))
+    (Settled (D.Done x))))
 
 unfoldable pub revertOf : Object → Change
 revertOf O.PinSid = C.Nothing

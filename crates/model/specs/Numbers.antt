@@ -12,7 +12,7 @@ use Rattle.payload.specs.Payload.{payloadAt}
 use Rattle.model.specs.Types.{Card}
 use Rattle.model.specs.Record.{factoryCard}
 use Rattle.model.specs.Sound.{sound}
-use Rattle.model.specs.Step.{Event, command, power, reset, media, unsound, run}
+use Rattle.model.specs.Step.{Event, command, power, reset, rulingNumber, media, run}
 use Rattle.model.specs.Laws.{Made}
 
 -- n is i where P is so; where it is not, n is what follows
@@ -55,9 +55,11 @@ pub record NumbersInOrder : Type 0 where
   pub packets : (k : Card) (room : ℕ) (s : List ℕ) → Numbered k room s (command k room s .number)
   pub powers : (k : Card) → First (power k .number) 1 (sound k ≡ false) (power k .number ≡ 0)
   pub resets : (k : Card) → First (reset k .number) 1 (sound k ≡ false) (First (reset k .number) 7 (Disabled k) (reset k .number ≡ 0))
+  pub media : (k : Card) (write : _) (start count : ℕ)
+      → First (rulingNumber (media k write start count)) 1 (sound k ≡ false) (rulingNumber (media k write start count) ≡ 0)
 
 -- from a factory record number 1 never comes
 pub record NeverUnsound : Type 0 where
   pub packets : (n : ℕ) (msid : List ℕ) (es : List Event) (room : ℕ) (s : List ℕ) → Made n msid → command (run (factoryCard n msid) es) room s .number ≢ 1
   pub powers : (n : ℕ) (msid : List ℕ) (es : List Event) → Made n msid → power (run (factoryCard n msid) es) .number ≡ 0
-  pub media : (n : ℕ) (msid : List ℕ) (es : List Event) (write : _) (start count : ℕ) → Made n msid → media (run (factoryCard n msid) es) write start count ≢ unsound
+  pub media : (n : ℕ) (msid : List ℕ) (es : List Event) (write : _) (start count : ℕ) → Made n msid → rulingNumber (media (run (factoryCard n msid) es) write start count) ≡ 0

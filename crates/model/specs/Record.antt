@@ -125,3 +125,7 @@ factoryCells n msid = record { n = n; msid = msid; tables = factoryTables; pins 
 
 abbrev pub factoryCard : ℕ → List ℕ → Card
 factoryCard n msid = record { cells = factoryCells n msid; vault = record { live = factorySecrets msid; kept = noSecrets } }
+
+-- what stands where no record could be made; it is not sound
+abbrev pub noCard : Card
+noCard = factoryCard 0 (replicate pinBytes 0)

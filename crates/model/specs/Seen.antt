@@ -2,26 +2,36 @@
 use Prim.Native.Nat.{ℕ}
 use mathlib.Core.Bool.{Bool, true, false}
 use mathlib.Core.List.{List, [], _∷_}
-use Rattle.model.specs.Types.{Cells, Card, Decision}
-use Rattle.model.specs.Judge.{Judged, settled, compare}
+use Rattle.model.specs.Types.{Cells, Card, Decision, Judged, Ruling}
+use Rattle.model.specs.declared.Judged.the-variants.{Settled, Compare}
 use Rattle.model.specs.Vault.{matches, part, decided}
-use Rattle.model.specs.Step.{Heard, turned, judged, heard, Reply, command, power, reset, Ruling, unsound, media, Event, packet, powered, wasReset, asked, next}
+use Rattle.model.specs.Step.{Heard, turned, judged, heard, Reply, command, power, reset, rulingNumber, media, Event, packet, powered, wasReset, asked, next}
+
+-- what the media shows: only where it is asked
+pub data Shown : Type 0 where
+  notShown : Shown
+  shown : Ruling → Shown
 
 -- the number, the answer's bytes, the media's ruling, and every cell that is no PIN
 pub record Sight : Type 0 where
   pub number : ℕ
   pub bytes : List ℕ
-  pub ruling : Ruling
+  pub ruling : Shown
   pub cells : Cells
 
 abbrev pub ofReply : Reply → Sight
-ofReply r = record { number = r .number; bytes = r .bytes; ruling = unsound; cells = r .card .cells }
+ofReply r = record { number = r .number; bytes = r .bytes; ruling = notShown; cells = r .card .cells }
 
 unfoldable pub sees : Card → Event → Sight
 sees k (packet room s) = ofReply (command k room s)
 sees k powered = ofReply (power k)
 sees k wasReset = ofReply (reset k)
-sees k (asked write start count) = record { number = 0; bytes = []; ruling = media k write start count; cells = k .cells }
+sees k (asked write start count) = record {
+  number = rulingNumber (media k write start count);
+  bytes = [];
+  ruling = shown (media k write start count);
+  cells = k .cells;
+}
 
 unfoldable pub trace : Card → List Event → List Sight
 trace k [] = []
@@ -33,8 +43,8 @@ pub data Answered : Type 0 where
   said : Bool → Answered
 
 unfoldable pub ofJudged : Card → List ℕ → Judged → Answered
-ofJudged k s (settled d) = notAsked
-ofJudged k s (compare r p n equal differs) = said (matches (k .vault) r (part s p n))
+ofJudged k s (Settled d) = notAsked
+ofJudged k s (Compare r p n equal differs) = said (matches (k .vault) r (part s p n))
 
 unfoldable pub ofHeard : Card → Heard → Answered
 ofHeard k (turned n) = notAsked

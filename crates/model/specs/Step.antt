@@ -13,12 +13,14 @@ use Rattle.payload.specs.Payload.{payloadAt}
 use Rattle.value.specs.Read.{valuesAt}
 use Rattle.ranges.specs.declared.Verdict.{Verdict}
 use Rattle.ranges.specs.Media.{mediaOf}
-use Rattle.model.specs.Types.{Tsn, Hsn, Session, Cells, Vault, Card, Decision}
+use Rattle.model.specs.Types.{Tsn, Hsn, Session, Cells, Vault, Card, Decision, Judged, Outcome, Ruling}
 use Rattle.model.specs.declared.Decision.the-variants as D
+use Rattle.model.specs.declared.Ruling.the-variants as G
 use Rattle.model.specs.Record as R
-use Rattle.model.specs.Sound.{sound}
+use Rattle.model.specs.Sound.{sizeOk, sound}
 use Rattle.model.specs.Uids as U
-use Rattle.model.specs.Judge.{Judged, settled, judgeManager, judgeMethod}
+use Rattle.model.specs.declared.Judged.the-variants.{Settled}
+use Rattle.model.specs.Judge.{judgeManager, judgeMethod}
 use Rattle.model.specs.Vault.{decided, obey, givenUp}
 use Rattle.model.specs.Apply.{settledTables, apply, powerCycle, tperReset}
 use Rattle.model.specs.Answer.{answer}
@@ -44,11 +46,11 @@ hearManager c tsn hsn s P.Broken = turned 6
 -- in the open session
 unfoldable pub judgeSession : Cells → List ℕ → Payload → Judged
 judgeSession c s (P.Call object method params) = judgeMethod c s (U.objectIn (c .session .locking) object) (U.methodOf method) (valuesAt s 15 params)
-judgeSession c s P.EndSession = settled D.Ended
-judgeSession c s P.Begin = settled (cond (c .undo .live) D.BeganAlready D.Began)
-judgeSession c s P.Commit = settled (cond (c .undo .live) D.Committed D.NoneOpen)
-judgeSession c s P.Abandon = settled (cond (c .undo .live) D.Abandoned D.NoneOpen)
-judgeSession c s P.Broken = settled D.Broke
+judgeSession c s P.EndSession = Settled D.Ended
+judgeSession c s P.Begin = Settled (cond (c .undo .live) D.BeganAlready D.Began)
+judgeSession c s P.Commit = Settled (cond (c .undo .live) D.Committed D.NoneOpen)
+judgeSession c s P.Abandon = Settled (cond (c .undo .live) D.Abandoned D.NoneOpen)
+judgeSession c s P.Broken = Settled D.Broke
 
 abbrev pub isManager : Tsn → Hsn → Bool
 isManager tsn hsn = eqb (tsn .0) 0 && eqb (hsn .0) 0
@@ -111,9 +113,22 @@ replyTo k (judged tsn hsn s j) = record {
   bytes = framed (k .cells) tsn hsn (decided (k .vault) s j);
 }
 
--- "0 brings the count of answer bytes; bytes past it are unchanged"
 abbrev pub command : Card → ℕ → List ℕ → Reply
 command k room s = replyTo k (heard k room s)
+
+-- "0 brings the count of answer bytes; bytes past it are unchanged"
+abbrev pub outcomeOf : Reply → Outcome
+outcomeOf r = record { number = r .number; count = length (r .bytes); card = r .card }
+
+abbrev pub bufferOf : Reply → List ℕ → List ℕ
+bufferOf r old = r .bytes ++ drop (length (r .bytes)) old
+
+-- ---- the factory: N and the MSID in bounds, or number 1
+unfoldable pub made : ℕ → List ℕ → Outcome
+made n msid =
+    cond (sizeOk n && eqb (length msid) R.pinBytes)
+    (record { number = 0; count = 0; card = R.factoryCard n msid })
+    (record { number = 1; count = 0; card = R.noCard })
 
 -- ---- resets: "On an unsound record resets and media questions answer number 1"
 abbrev pub resetTo : Card → Cells → Card
@@ -129,15 +144,16 @@ reset k =
     (record { number = 0; card = resetTo k (tperReset (k .cells)); bytes = [] }))
 
 -- ---- the media: "With a transaction open, media questions go by the cells from before it"
-pub data Ruling : Type 0 where
-  unsound : Ruling
-  ruled : Verdict → Ruling
+-- number 1 for an unsound record, and else 0 with the verdict
+unfoldable pub rulingNumber : Ruling → ℕ
+rulingNumber G.Unsound = 1
+rulingNumber (G.Ruled v) = 0
 
 unfoldable pub media : Card → Bool → ℕ → ℕ → Ruling
 media k write start count =
     cond (sound k)
-    (ruled (mediaOf (settledTables (k .cells) .rows) (settledTables (k .cells) .mbr) (settledTables (k .cells) .active) (k .cells .n) write start count))
-    unsound
+    (G.Ruled (mediaOf (settledTables (k .cells) .rows) (settledTables (k .cells) .mbr) (settledTables (k .cells) .active) (k .cells .n) write start count))
+    G.Unsound
 
 -- ---- events are what the outside gives
 pub data Event : Type 0 where

@@ -3,12 +3,12 @@ use Prim.Native.Nat.{ℕ}
 use mathlib.Core.Bool.{Bool, true, false, _&&_, cond}
 use mathlib.Core.List.{List, [], _∷_}
 use lib.ListN.{set, take, drop, getD}
-use lib.Dec.{eqb}
-use Rattle.model.specs.Types.{Secret, Vault, Change, Decision}
+use lib.Dec.{eqb, leb}
+use Rattle.model.specs.Types.{Secret, Vault, Change, Decision, Judged}
 use Rattle.model.specs.declared.Change.the-variants as C
 use Rattle.model.specs.declared.Decision.the-variants as D
 use Rattle.model.specs.Record as R
-use Rattle.model.specs.Judge.{Judged, settled, compare}
+use Rattle.model.specs.declared.Judged.the-variants.{Settled, Compare}
 
 unfoldable pub same : List ℕ → List ℕ → Bool
 same [] [] = true
@@ -26,8 +26,8 @@ matches v r p = same (R.pinOf (R.secretAt (v .live) r)) p
 
 -- what is decided once the vault has answered
 unfoldable pub decided : Vault → List ℕ → Judged → Decision
-decided v s (settled d) = d
-decided v s (compare r p n equal differs) = cond (matches v r (part s p n)) equal differs
+decided v s (Settled d) = d
+decided v s (Compare r p n equal differs) = cond (matches v r (part s p n)) equal differs
 
 abbrev pub withLive : Vault → List Secret → Vault
 withLive v l = record { live = l; kept = v .kept }
@@ -43,9 +43,10 @@ wiped v = record { live = v .live; kept = R.noSecrets }
 abbrev pub givenUp : Bool → Vault → Vault
 givenUp live v = cond live (putBack v) (wiped v)
 
+-- what is longer than a PIN is not stored
 unfoldable pub obeyChange : List ℕ → List ℕ → Vault → Change → Vault
 obeyChange msid s v C.Nothing = v
-obeyChange msid s v (C.PutPin r p n) = withLive v (set (v .live) r (R.secretOf (part s p n)))
+obeyChange msid s v (C.PutPin r p n) = withLive v (cond (leb n R.pinBytes) (set (v .live) r (R.secretOf (part s p n))) (v .live))
 obeyChange msid s v (C.PutEnabled r on) = v
 obeyChange msid s v (C.PutRange k e) = v
 obeyChange msid s v (C.PutMbr e) = v

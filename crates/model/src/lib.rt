@@ -6,6 +6,9 @@ use ranges::Flag;
 use ranges::Mbr;
 use ranges::ROWS;
 use ranges::Row;
+use ranges::Verdict;
+ghost use mathlib.Core.Path.{_≡_};
+ghost use Rattle.model.specs.Apply.{missedRow, provedSession};
 ghost use Rattle.model.specs.Numbers.{NumbersInOrder, NeverUnsound};
 ghost use Rattle.model.specs.Words.{AccessAsSaid};
 ghost use Rattle.model.specs.Laws.{SoundDecided, AlwaysSound, RangesApart, TurnedAway, Secrecy, RefusedKeeps, AbandonPutsBack, CommitKeeps, NothingShows};
@@ -148,21 +151,13 @@ pub enum Decision {
     NotStarted(Status),
     Missed(usize),
     // a session to an SP for a host, with this row proved or nobody
-    Started {
-        locking: bool,
-        hsn: Hsn,
-        who: Who,
-    },
+    Started { locking: bool, hsn: Hsn, who: Who },
     // an Authenticate answered 0, one whose PIN for this row differs, and one answered 1
     Denied,
     Mistaken(usize),
     Proved(Who),
     // a Get of these columns of an object
-    Told {
-        object: Object,
-        first: u64,
-        last: u64,
-    },
+    Told { object: Object, first: u8, last: u8 },
     Done(Change),
     // the control payloads
     Began,
@@ -173,6 +168,73 @@ pub enum Decision {
     Ended,
     // a broken payload in the session
     Broke,
+}
+
+// What a request is judged to be: decided, or a PIN row to be compared with bytes of the request, and what follows where they are equal and where they differ.
+pub enum Judged {
+    Settled(Decision),
+    Compare {
+        row: usize,
+        at: usize,
+        len: usize,
+        equal: Decision,
+        differs: Decision,
+    },
+}
+
+// What comes back of a request or a reset: the number, the count of answer bytes, and the record after it.
+pub struct Outcome {
+    pub number: u8,
+    pub count: usize,
+    pub card: Card,
+}
+
+// What comes back of a media question.
+pub enum Ruling {
+    Unsound,
+    Ruled(Verdict),
+}
+
+impl PinRow {
+    // "Tries 0"
+    pub fn cleared(mut self) -> Self
+        ensures { λ r. ⌜ r ≡ record { tries = 0 } ⌝ }
+    {
+        self.tries = 0;
+        self
+    }
+
+    // "PIN differs, Tries + 1"
+    pub fn missed(mut self) -> Self
+        ensures { λ r. ⌜ r ≡ missedRow self ⌝ }
+    {
+        let n = self.tries;
+        if n < 5 {
+            self.tries = n + 1;
+        }
+        self
+    }
+}
+
+impl Session {
+    // "and the authority is proved"
+    pub fn proving(self, who: Who) -> Self
+        ensures { λ r. ⌜ r ≡ provedSession self who ⌝ }
+    {
+        match who {
+            Who::Unknown => self,
+            Who::Anybody => self,
+            Who::Class => self,
+            Who::Row(r) => {
+                if r < PINS {
+                    let mut x = self;
+                    x.proved[r] = true;
+                    return x;
+                }
+                self
+            }
+        }
+    }
 }
 
 // A record is sound exactly if each clause of document 01 holds.
