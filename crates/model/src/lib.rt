@@ -13,6 +13,11 @@ ghost use Rattle.model.specs.Numbers.{NumbersInOrder, NeverUnsound};
 ghost use Rattle.model.specs.Words.{AccessAsSaid};
 ghost use Rattle.model.specs.Laws.{SoundDecided, AlwaysSound, RangesApart, TurnedAway, Secrecy, RefusedKeeps, AbandonPutsBack, CommitKeeps, NothingShows};
 
+// Admin1 to Admin4, User1 to User8
+pub const ADMINS: u8 = 4;
+
+pub const USERS: u8 = 8;
+
 // The rows of C_PIN, and the authorities that have one: SID is 0, Admin1 to Admin4 are 1 to 4, User1 to User8 are 5 to 12.
 // `pinCount` of specs/Record.antt is the same number.
 pub const PINS: usize = 13;
@@ -90,10 +95,10 @@ pub enum Object {
     SpLocking,
     ThisSp,
     // an authority and its PIN, by their row
-    Authority(usize),
-    Pin(usize),
+    Authority(u8),
+    Pin(u8),
     // 0 is the global range
-    Range(usize),
+    Range(u8),
     MbrControl,
     Nothing,
 }
