@@ -3,15 +3,14 @@ use Prim.Native.Nat.{ℕ, _≤_, _<_}
 use mathlib.Core.Path.{_≡_, refl}
 use mathlib.Core.Bool.{Bool, true, false, _&&_, cond}
 use mathlib.Core.List.{List}
-use lib.ListN.{length, set}
+use lib.ListN.{length}
 use lib.Dec.{ltb}
 use borrow.Author.Tests.{lt-ltb, le-ltb}
 use Rattle.ranges.specs.declared.Row.{Row}
 use Rattle.ranges.specs.declared.Edit.{Edit}
 use Rattle.ranges.specs.Decides.{imp}
-use Rattle.ranges.specs.Row.{rowAt}
 use Rattle.ranges.specs.Fit.{Fit, fitB}
-use Rattle.ranges.specs.Set.{editedRow, edited, keepsSpan, setOk, setRows, judgedOf}
+use Rattle.ranges.specs.Set.{edited, keepsSpan, setOk, setRows, judgedOf}
 use Rattle.ranges.proofs.Decide.{is-true, is-false}
 use Rattle.ranges.proofs.Fitted.{fit-decides}
 
@@ -39,11 +38,11 @@ module _ (rows : List Row) (k : ℕ) (e : Edit) (n : ℕ) where
     unfolding setOk setRows
     moved t = rw (lt-ltb k (length rows) l, ← s, t) refl
 
-    module _ (t : b ≡ true) (x : Row) (q : x ≡ editedRow (rowAt rows k) e) where
-      pub kept : Fit (set rows k x) n → record { ok = true; rows = set rows k x } ≡ judgedOf rows k e n
+    module _ (t : b ≡ true) (x : List Row) (q : x ≡ edited rows k e) where
+      pub kept : Fit x n → record { ok = true; rows = x } ≡ judgedOf rows k e n
       unfolding setOk setRows
-      kept f = rw (lt-ltb k (length rows) l, ← s, t, ← q, is-true _ (fit-decides (set rows k x) n) f) refl
+      kept f = rw (lt-ltb k (length rows) l, ← s, t, ← q, is-true _ (fit-decides x n) f) refl
 
-      pub unfit : (Fit (set rows k x) n → ⊥) → record { ok = false; rows = rows } ≡ judgedOf rows k e n
+      pub unfit : (Fit x n → ⊥) → record { ok = false; rows = rows } ≡ judgedOf rows k e n
       unfolding setOk setRows
-      unfit f = rw (lt-ltb k (length rows) l, ← s, t, ← q, is-false _ (fit-decides (set rows k x) n) f) refl
+      unfit f = rw (lt-ltb k (length rows) l, ← s, t, ← q, is-false _ (fit-decides x n) f) refl

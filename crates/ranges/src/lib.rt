@@ -6,7 +6,7 @@ ghost use lib.Dec.{ltb};
 ghost use Rattle.ranges.specs.Decides.{Decides, imp};
 ghost use Rattle.ranges.specs.Row.{Holds, holdsB};
 ghost use Rattle.ranges.specs.Fit.{Apart, Fit};
-ghost use Rattle.ranges.specs.Set.{numberOf, flagOf, editedRow, keepsSpan, judgedOf};
+ghost use Rattle.ranges.specs.Set.{edited, numberOf, flagOf, editedRow, keepsSpan, judgedOf};
 ghost use Rattle.ranges.specs.Owner.{ownerOf};
 ghost use Rattle.ranges.specs.Media.{barredB, clearB, shadowed, shadowOf, mediaOf};
 ghost use Rattle.ranges.specs.Reset.{resetRows, resetMbr};
@@ -141,7 +141,8 @@ fn new_number(old: u64, to: Number) -> u64
     }
 }
 
-fn new_flag(old: bool, to: Flag) -> bool
+// A flag after a Set.
+pub fn new_flag(old: bool, to: Flag) -> bool
     ensures { λ r. ⌜ r ≡ flagOf old to ⌝ }
 {
     match to {
@@ -197,16 +198,27 @@ fn spares(k: usize, e: Edit) -> bool
     true
 }
 
+// The rows with one of them edited; a row that is not there changes nothing.
+pub fn edited(rows: [Row; ROWS], k: usize, e: Edit) -> [Row; ROWS]
+    ensures { λ r. ⌜ r ≡ edited rows k e ⌝ }
+{
+    if k < ROWS {
+        let mut next = rows;
+        let row = next[k];
+        let changed = edit_row(row, e);
+        next[k] = changed;
+        return next;
+    }
+    rows
+}
+
 // All or nothing: the rows are copied, edited, judged as they would stand, and kept or dropped.
 pub fn set(rows: [Row; ROWS], k: usize, e: Edit, n: u64) -> Judged
     ensures { λ r. ⌜ r ≡ judgedOf rows k e n ⌝ }
 {
     if k < ROWS {
         if spares(k, e) {
-            let mut next = rows;
-            let row = next[k];
-            let edited = edit_row(row, e);
-            next[k] = edited;
+            let next = edited(rows, k, e);
             if fits(next, n) {
                 return Judged {
                     ok: true,

@@ -258,6 +258,21 @@ fn copy(buf: &mut [u8], p: usize, src: &[u8])
     }
 }
 
+// The lowest n bytes of v, the highest first, at at.
+pub fn put_number(buf: &mut [u8], at: usize, n: usize, v: u64) -> Put
+    ensures answer { λ r. ⌜ r ≡ putEnd true (length (now (buf .entry))) at (beOf n v) ⌝ }
+    ensures buffer { λ _. ⌜ now (buf .exit) ≡ putAll true (now (buf .entry)) at (beOf n v) ⌝ }
+{
+    if at <= buf.len() {
+        if n <= buf.len() - at {
+            digits(buf, at, n, v);
+            return Put::At(at + n);
+        }
+        return Put::Full;
+    }
+    Put::Full
+}
+
 // An integer in its shortest form, at at.
 pub fn put_int(buf: &mut [u8], at: usize, v: u64) -> Put
     ensures answer { λ r. ⌜ r ≡ putEnd true (length (now (buf .entry))) at (encInt v) ⌝ }

@@ -15,20 +15,8 @@ long c = c .good .0 .1 .0 .1
 spares-requires : tie.Need-spares-requires
 spares-requires c κs = search needs
 
-mul-row : tie.Need-mul-row
-mul-row c = search needs
-
-array-copy-out-row : tie.Need-array-copy-out-row
-array-copy-out-row c = search needs
-
-edit-row-requires : tie.Need-edit-row-requires
-edit-row-requires c κs = search needs
-
-mul-next : tie.Need-mul-next
-mul-next c = search needs
-
-array-set-from-next : tie.Need-array-set-from-next
-array-set-from-next c = search needs
+edited-requires : tie.Need-edited-requires
+edited-requires c κs = search needs
 
 fits-requires : tie.Need-fits-requires
 fits-requires c κs = search needs
@@ -39,16 +27,16 @@ there c = omega (arith, long (c .before))
 
 returns : tie.Need-returns
 returns c =
-    let edit-row = c .before .before .edit-row in
-    let then2 = c .before .before .before .before in
-    kept _ _ _ _ (there (then2 .before .before)) _ (then2 .before .spares .ensures) (then2 .if2 .taken) _ (edit-row .ensures)
+    let edited = c .before .before .edited in
+    let then2 = c .before .before .before in
+    kept _ _ _ _ (there (then2 .before .before)) _ (then2 .before .spares .ensures) (then2 .if2 .taken) _ (edited .ensures)
     (c .before .fits2 .ensures .holds (c .if3 .taken))
 
 returns-2 : tie.Need-returns-2
 returns-2 c =
-    let edit-row = c .before .before .edit-row in
-    let then2 = c .before .before .before .before in
-    unfit _ _ _ _ (there (then2 .before .before)) _ (then2 .before .spares .ensures) (then2 .if2 .taken) _ (edit-row .ensures)
+    let edited = c .before .before .edited in
+    let then2 = c .before .before .before in
+    unfit _ _ _ _ (there (then2 .before .before)) _ (then2 .before .spares .ensures) (then2 .if2 .taken) _ (edited .ensures)
     (c .before .fits2 .ensures .fails (c .if3 .left))
 
 returns-3 : tie.Need-returns-3
@@ -58,17 +46,4 @@ returns-4 : tie.Need-returns-4
 returns-4 c = no-row _ _ _ _ (omega (arith, long (c .before)))
 
 pub set-spec : {M : Type 1} → statement M
-set-spec =
-    tie.close
-    (tie.spec
-    spares-requires
-    mul-row
-    array-copy-out-row
-    edit-row-requires
-    mul-next
-    array-set-from-next
-    fits-requires
-    returns
-    returns-2
-    returns-3
-    returns-4)
+set-spec = tie.close (tie.spec spares-requires edited-requires fits-requires returns returns-2 returns-3 returns-4)
