@@ -1,2 +1,4 @@
 -- The laws that the proofs of `histories` cite.
 pub mod Histories
+pub mod Speaks
+pub mod Edges

@@ -1,3 +1,5 @@
 -- The definitions that the contracts of `histories` cite.
 pub mod Worked
 pub mod Wrong
+pub mod Speaks
+pub mod Edges

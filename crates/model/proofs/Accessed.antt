@@ -21,12 +21,13 @@ use Rattle.model.specs.Words as W
 use Rattle.model.specs.Words.{OneOf, Proved, Admins, AccessAsSaid}
 use Rattle.model.proofs.Legal.{Placed}
 use Rattle.model.proofs.Legal as L
+use Rattle.model.proofs.Short.{column-hidden}
 
 -- ---- tests put together: a Bool with what it decides
-abbrev Test : Type 0 → Type 0
+abbrev pub Test : Type 0 → Type 0
 Test P = (b : Bool) × Decides b P
 
-dec-or : {P Q : Type 0} (a b : Bool) → Decides a P → Decides b Q → Decides (a || b) (P ⊎ Q)
+pub dec-or : {P Q : Type 0} (a b : Bool) → Decides a P → Decides b Q → Decides (a || b) (P ⊎ Q)
 dec-or true b x y = record { holds = λ _. inl (x .holds refl); fails = λ e. absurd (true≢false e) }
 dec-or false b x y = record { holds = λ e. inr (y .holds e); fails = λ e. ⊎-elim (x .fails refl) (y .fails e) }
 
@@ -34,16 +35,16 @@ dec-last : {P : Type 0} (b : Bool) → Decides b P → Decides (b || false) P
 dec-last true d = d
 dec-last false d = d
 
-dec-is : (m x : ℕ) → Decides (eqb x m) (m ≡ x)
+pub dec-is : (m x : ℕ) → Decides (eqb x m) (m ≡ x)
 dec-is m x = record { holds = λ e. sym (eqb-true x m e); fails = λ e p. eqb-false x m e (sym p) }
 
 dec-bool : (b : Bool) → Decides b (b ≡ true)
 dec-bool b = record { holds = λ e. e; fails = λ e p. true≢false (sym p ∙ e) }
 
-abbrev never : Test ⊥
+abbrev pub never : Test ⊥
 never = (false, record { holds = λ e. true≢false (sym e); fails = λ _ n. n })
 
-abbrev or : {P Q : Type 0} → Test P → Test Q → Test (P ⊎ Q)
+abbrev pub or : {P Q : Type 0} → Test P → Test Q → Test (P ⊎ Q)
 or x y = (x .0 || y .0, dec-or (x .0) (y .0) (x .1) (y .1))
 
 abbrev and : {P Q : Type 0} → Test P → Test Q → Test (P × Q)
@@ -53,14 +54,14 @@ and x y = (x .0 && y .0, dec-and (x .0) (y .0) (x .1) (y .1))
 abbrev last : {P : Type 0} → Test P → Test P
 last x = (x .0 || false, dec-last (x .0) (x .1))
 
-abbrev is : (m x : ℕ) → Test (m ≡ x)
+abbrev pub is : (m x : ℕ) → Test (m ≡ x)
 is m x = (eqb x m, dec-is m x)
 
 abbrev proved : (s : Session) (r : ℕ) → Test (Proved s r)
 proved s r = (provedAt s r, dec-bool (provedAt s r))
 
 -- one of a list
-abbrev any : (m : ℕ) (l : List ℕ) → Test (OneOf m l)
+abbrev pub any : (m : ℕ) (l : List ℕ) → Test (OneOf m l)
 any m [] = never
 any m (x ∷ l) = or (is m x) (any m l)
 
@@ -143,7 +144,7 @@ module _ (s : Session) (m : ℕ) where
   has b o e L.this-sp = on-this b e
   has b o e (L.authority {r = r} l h) = on-authority r (eqb r 1) refl
   has b o e (L.pin {r = r} l h) = on-pin (within 1 adminCount r)
-  has b o e (L.range {k = k}) = on-range (eqb k 0)
+  has b o e (L.range {k = k} _) = on-range (eqb k 0)
   has b o e L.mbr-control = any m (0x16 ∷ 0x17 ∷ []) .1
   has b o e L.nothing = never .1
 
@@ -183,7 +184,7 @@ module _ (s : Session) (c : ℕ) (h : c < 20) where
   may-get b o L.this-sp = get-this b
   may-get b o (L.authority {r = r} l g) = get-authority r (eqb r 1)
   may-get b o (L.pin {r = r} l g) = get-pin r (within 1 adminCount r)
-  may-get b o (L.range {k = k}) = get-range k (eqb k 0)
+  may-get b o (L.range {k = k} _) = get-range k (eqb k 0)
   may-get b o L.mbr-control = last (cols (0 ∷ 1 ∷ 2 ∷ 3 ∷ []) tt c h) .1
   may-get b o L.nothing = never .1
 
@@ -231,7 +232,7 @@ module _ (s : Session) (c : ℕ) (h : c < 20) where
   may-set b o L.this-sp = set-this b
   may-set b o (L.authority {r = r} l g) = set-authority r (eqb r 1) refl
   may-set b o (L.pin {r = r} l g) = set-pin r l (within 1 adminCount r) refl
-  may-set b o (L.range {k = k}) = set-range k (eqb k 0) refl
+  may-set b o (L.range {k = k} _) = set-range k (eqb k 0) refl
   may-set b o L.mbr-control = last (and (admins s) (cols (1 ∷ 2 ∷ 3 ∷ []) tt c h)) .1
   may-set b o L.nothing = never .1
 
@@ -250,6 +251,11 @@ module _ (s : Session) where
   revert-sp true e = last (admins s) .1
   revert-sp false e = absurd (true≢false (sym e))
 
+  authenticate : (b : Bool) → Decides (someRow (λ a. A.isFor (kindOf b O.ThisSp) 0x1c a && holds s (selfOf O.ThisSp) (a .who)) accessRows) (Unit {0})
+  unfolding someRow accessRows kindOf selfOf holds
+  authenticate true = record { holds = λ _. tt; fails = λ e. absurd (true≢false e) }
+  authenticate false = record { holds = λ _. tt; fails = λ e. absurd (true≢false e) }
+
 pub access-as-said : AccessAsSaid
 access-as-said = record {
   pairs = λ s u m. has s m (s .locking) _ refl (L.object-placed (s .locking) u);
@@ -258,4 +264,6 @@ access-as-said = record {
   activates = λ s _. activates s;
   reverts = λ s _. reverts s;
   revert-sps = λ s e. revert-sp s (s .locking) e;
+  authenticates = λ s. authenticate s (s .locking);
+  past = column-hidden;
 }

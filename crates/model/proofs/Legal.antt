@@ -1,12 +1,9 @@
 -- What is known where a decision is taken: the one walk through all the checks. Laws over runs go by the decision, with this in hand.
-use Prim.Native.Nat.{ℕ, _+_, _-_, _≤_, _<_}
+use Prim.Native.Nat.{ℕ, _+_, _≤_, _<_}
 use mathlib.Core.Path.{_≡_, refl, sym}
-use mathlib.Core.Bool.{Bool, true, false, _&&_, cond, true≢false}
+use mathlib.Core.Bool.{Bool, true, false, cond, true≢false}
 use mathlib.Core.List.{List}
 use native.Mathlib.Omega.{arith}
-use borrow.Author.Tests.{leb-true}
-use lib.Dec.{leb, eqb}
-use Rattle.token.specs.Bytes.{within}
 use Rattle.item.specs.declared.Slot.{Slot}
 use Rattle.item.specs.declared.Slot.the-variants as S
 use Rattle.ranges.specs.Row.{rowCount}
@@ -22,6 +19,9 @@ use Rattle.model.specs.Judge as J
 use Rattle.model.specs.declared.Judged.the-variants.{Settled, Compare}
 use Rattle.model.specs.Vault.{matches, part, decided}
 use Rattle.model.specs.Step.{Heard, turned, judged}
+use Rattle.model.specs.Literals as N
+use Rattle.model.specs.Literals.{Names, Knows}
+use Rattle.model.proofs.Figures.{object-ind, who-ind}
 
 -- ---- what is known of each decision
 -- a PIN row of an authority that the SP knows: "SID in Admin; .. Admin1-4 and User1-8 in Locking"
@@ -91,26 +91,6 @@ unfolding J.need
 need-ind F true d j x f = f refl
 need-ind F false d j x f = x
 
-pub cond-ind : {A : Type 0} (F : A → Type 0) (b : Bool) (x y : A) → (b ≡ true → F x) → (b ≡ false → F y) → F (cond b x y)
-cond-ind F true x y f g = f refl
-cond-ind F false x y f g = g refl
-
-pub both : (a b : Bool) → (a && b) ≡ true → (a ≡ true) × (b ≡ true)
-both true b e = (refl, e)
-both false b e = absurd (true≢false (sym e))
-
-nth-ind : {A : Type 0} (F : A → Type 0) (base count u : ℕ) (f : ℕ → A) (z : A) → ((k : ℕ) → 1 ≤ k → k ≤ count → F (f k)) → F z
-    → F (U.nth base count u f z)
-unfolding within
-nth-ind F base count u f z h g =
-    cond-ind F _ _ _
-    (λ e.
-    let p = both (leb (base + 1) u) (leb u (base + count)) e in
-    let lo : base + 1 ≤ u = leb-true _ _ (p .0) in
-    let hi : u ≤ base + count = leb-true _ _ (p .1) in
-    h (u - base) (omega arith) (omega arith))
-    (λ _. g)
-
 -- ---- who and what a UID names
 sid-row : KnownRow false 0
 sid-row = record { there = omega arith; admin = λ _. refl; other = λ e. absurd (true≢false (sym e)) }
@@ -119,17 +99,15 @@ other-row : (r : ℕ) → 1 ≤ r → r < R.pinCount → KnownRow true r
 other-row r l m = record { there = m; admin = λ e. absurd (true≢false e); other = λ _. l }
 
 pub who-known : (locking : Bool) (u : ℕ) → KnownWho locking (U.whoIn locking u)
-unfolding U.whoIn
-who-known false u =
-    let F = KnownWho false in
-    cond-ind F (eqb u U.anybody) _ _ (λ _. anybody) λ _. cond-ind F (eqb u U.admins) _ _ (λ _. class) λ _.
-    cond-ind F (eqb u U.sid) _ _ (λ _. row sid-row) (λ _. unknown)
-who-known true u =
-    let F = KnownWho true in
-    cond-ind F (eqb u U.anybody) _ _ (λ _. anybody) λ _. cond-ind F (eqb u U.admins) _ _ (λ _. class) λ _.
-    cond-ind F (eqb u U.users) _ _ (λ _. class) λ _.
-    nth-ind F U.adminBase R.adminCount u _ _ (λ k l m. row (other-row k l (omega arith)))
-    (nth-ind F U.userBase R.userCount u _ _ (λ k l m. row (other-row (R.adminCount + k) (omega arith) (omega arith))) unknown)
+who-known locking u = who-ind (KnownWho locking) u unknown locking is
+  where
+    is : {b : Bool} {v : ℕ} (w : Who) → Knows b v w → KnownWho b w
+    is w N.anybody = anybody
+    is w N.admins = class
+    is w N.sid = row sid-row
+    is w N.users = class
+    is w (N.admin k l m) = row (other-row k l (omega arith))
+    is w (N.user k l m) = row (other-row (4 + k) (omega arith) (omega arith))
 
 pub signer-known : (s : List ℕ) (locking : Bool) (x : Slot) → KnownWho locking (J.signer s locking x)
 unfolding J.signer
@@ -149,24 +127,24 @@ pub data Placed : Bool → Object → Type 0 where
   this-sp : {locking : Bool} → Placed locking O.ThisSp
   authority : {r : ℕ} → 1 ≤ r → r < R.pinCount → Placed true (O.Authority r)
   pin : {r : ℕ} → 1 ≤ r → r < R.pinCount → Placed true (O.Pin r)
-  range : {k : ℕ} → Placed true (O.Range k)
+  range : {k : ℕ} → k < rowCount → Placed true (O.Range k)
   mbr-control : Placed true O.MbrControl
   nothing : {locking : Bool} → Placed locking O.Nothing
 
 pub object-placed : (locking : Bool) (u : ℕ) → Placed locking (U.objectIn locking u)
-unfolding U.objectIn
-object-placed false u =
-    let F = Placed false in
-    cond-ind F (eqb u U.thisSp) _ _ (λ _. this-sp) λ _. cond-ind F (eqb u U.pinSid) _ _ (λ _. pin-sid) λ _.
-    cond-ind F (eqb u U.pinMsid) _ _ (λ _. pin-msid) λ _. cond-ind F (eqb u U.tperInfo) _ _ (λ _. tper-info) λ _.
-    cond-ind F (eqb u U.adminSp) _ _ (λ _. sp-admin) λ _. cond-ind F (eqb u U.lockingSp) _ _ (λ _. sp-locking) (λ _. nothing)
-object-placed true u =
-    let F = Placed true in
-    cond-ind F (eqb u U.thisSp) _ _ (λ _. this-sp) λ _.
-    nth-ind F U.adminBase R.adminCount u (λ k. O.Authority k) _ (λ k l m. authority l (omega arith))
-    (nth-ind F U.userBase R.userCount u (λ k. O.Authority (R.adminCount + k)) _ (λ k l m. authority (omega arith) (omega arith))
-    (nth-ind F U.adminPinBase R.adminCount u (λ k. O.Pin k) _ (λ k l m. pin l (omega arith))
-    (nth-ind F U.userPinBase R.userCount u (λ k. O.Pin (R.adminCount + k)) _ (λ k l m. pin (omega arith) (omega arith))
-    (cond-ind F (eqb u U.globalRange) _ _ (λ _. range) λ _.
-    nth-ind F U.rangeBase (rowCount - 1) u (λ k. O.Range k) _ (λ k l m. range)
-    (cond-ind F (eqb u U.mbrControl) _ _ (λ _. mbr-control) (λ _. nothing))))))
+object-placed locking u = object-ind (Placed locking) u nothing locking is
+  where
+    is : {b : Bool} {v : ℕ} (o : Object) → Names b v o → Placed b o
+    is o N.this-sp = this-sp
+    is o N.pin-sid = pin-sid
+    is o N.pin-msid = pin-msid
+    is o N.tper-info = tper-info
+    is o N.sp-admin = sp-admin
+    is o N.sp-locking = sp-locking
+    is o (N.admin k l m) = authority l (omega arith)
+    is o (N.user k l m) = authority {r = 4 + k} (omega arith) (omega arith)
+    is o (N.admin-pin k l m) = pin l (omega arith)
+    is o (N.user-pin k l m) = pin {r = 4 + k} (omega arith) (omega arith)
+    is o N.global = range {k = 0} (omega arith)
+    is o (N.range k l m) = range {k = k} (omega arith)
+    is o N.mbr-control = mbr-control

@@ -21,7 +21,8 @@ use Rattle.model.specs.Apply.{settledTables}
 use Rattle.model.specs.Step as Z
 use Rattle.model.specs.Step.{Heard, turned, Reply, rulingNumber, replyTo, hearManager, hearPacket, heard, command, power, reset, media}
 use Rattle.model.specs.Numbers.{First, Neither, NoCall, Numbered, Disabled, NumbersInOrder, NeverUnsound}
-use Rattle.model.proofs.Soundness.{dec-on, dec-off, dec-eq}
+use Rattle.model.proofs.Soundness.{dec-off, dec-eq}
+use Rattle.model.proofs.Sent.{session-decides}
 use Rattle.model.proofs.Reached.{always-sound}
 
 -- ---- one test: x where it passes, y where not
@@ -34,7 +35,7 @@ abbrev numberOf : Card → Heard → ℕ
 numberOf k h = replyTo k h .number
 
 -- ---- numbers 5 and 6
-abbrev isCall : Payload → Bool
+abbrev pub isCall : Payload → Bool
 isCall (P.Call object method params) = true
 isCall P.EndSession = false
 isCall P.Begin = false
@@ -93,8 +94,7 @@ module _ (k : Card) (s : List ℕ) where
       (Z.judged (record { 0 = tsn }) (record { 0 = hsn }) r (Z.judgeSession (k .cells) r (payloadAt r start)))
       (turned 5)
       (dec-and _ _ (dec-eq tsn 0) (dec-eq hsn 0))
-      (map (λ p. (p .0, p .1 .0, p .1 .1)) (λ p. (p .0, (p .1, p .2)))
-      (dec-and _ _ (dec-on (k .cells .session .live)) (dec-and _ _ (dec-eq (k .cells .session .tsn .0) tsn) (dec-eq (k .cells .session .hsn .0) hsn))))
+      (session-decides k (record { 0 = tsn }) (record { 0 = hsn }))
       (λ n. (n .0, n .1))
       (by-manager k r tsn hsn (payloadAt r start))
       refl refl

@@ -25,7 +25,8 @@ use Rattle.model.specs.Vault.{part}
 use Rattle.model.specs.Apply as A
 use Rattle.model.specs.Laws.{SoundTables, SoundSession, SoundSecret, SoundSecrets}
 use Rattle.model.proofs.Legal as L
-use Rattle.model.proofs.Legal.{KnownWho, both}
+use Rattle.model.proofs.Cases.{both}
+use Rattle.model.proofs.Legal.{KnownWho}
 
 -- what holds of each cell and of what is put at i holds of each cell after it
 pub stored : {A : Type 0} (P : ℕ → A → Type 0) (l : List A) (d : A) (i : ℕ) (a : A) → P i a → ((k : ℕ) → P k (getD l k d))
@@ -84,7 +85,7 @@ module _ (n : ℕ) (t : Tables) (h : SoundTables n t) where
   pub put-active : (on : Bool) → SoundTables n (R.withActive t on)
   put-active on = record { rows = h .rows; authorities = h .authorities; sid = h .sid; global = h .global; fit = h .fit }
 
-reset-long : (on : Bool) (l : List Row) → length (resetRows on l) ≡ length l
+pub reset-long : (on : Bool) (l : List Row) → length (resetRows on l) ≡ length l
 unfolding resetRows
 reset-long true l = length-map l lockedRow
 reset-long false l = refl
@@ -173,10 +174,13 @@ put-secret l r x g h = record {
   each = stored (λ i y. i < R.pinCount → SoundSecret y) l _ r x (λ _. g) (h .each);
 }
 
+pub all-same : {A : Type 0} (F : A → Type 0) (n : ℕ) (a d : A) → F a → F d → (i : ℕ) → F (getD (replicate n a) i d)
+all-same F zero a d f g i = g
+all-same F (suc n) a d f g zero = f
+all-same F (suc n) a d f g (suc i) = all-same F n a d f g i
+
 pub same-all : {A : Type 0} (n i : ℕ) (x : A) → getD (replicate n x) i x ≡ x
-same-all zero i x = refl
-same-all (suc n) zero x = refl
-same-all (suc n) (suc i) x = same-all n i x
+same-all n i x = all-same (λ y. y ≡ x) n x x refl refl i
 
 zeros-after : (p : List ℕ) (n i : ℕ) → length p ≤ i → getD (p ++ replicate n 0) i 0 ≡ 0
 zeros-after [] n i l = same-all n i 0

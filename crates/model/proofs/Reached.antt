@@ -1,6 +1,6 @@
 -- Every record that a run reaches is sound: each legal decision and each reset keeps it so.
 use Prim.Native.Nat.{ℕ, _+_, _≤_, _<_}
-use mathlib.Core.Path.{_≡_, refl, sym, _∙_, subst}
+use mathlib.Core.Path.{_≡_, refl, sym, _∙_, ap, subst}
 use mathlib.Core.Bool.{Bool, true, false, not, cond, true≢false}
 use mathlib.Core.List.{List, [], _∷_}
 use mathlib.Core.Logic.{_≢_, ⊎-elim}
@@ -23,7 +23,8 @@ use Rattle.model.specs.Step.{Heard, Event, packet, powered, wasReset, as
 use Rattle.model.specs.Laws.{SoundTables, SoundSession, SoundSecrets, SoundRecord, Made, AlwaysSound, ApartAndShared, RangesApart}
 use Rattle.model.proofs.Soundness.{Tries, sound-decides}
 use Rattle.model.proofs.Legal as L
-use Rattle.model.proofs.Legal.{KnownWho, LegalChange, Legal, FairHeard, away, taken, fair-decided, cond-ind}
+use Rattle.model.proofs.Cases.{cond-ind}
+use Rattle.model.proofs.Legal.{KnownWho, LegalChange, Legal, FairHeard, away, taken, fair-decided}
 use Rattle.model.proofs.Walked.{heard-fair}
 use Rattle.model.proofs.Parts
 
@@ -31,7 +32,7 @@ use Rattle.model.proofs.Parts
 abbrev celled : Card → Cells → Card
 celled k c = record { cells = c; vault = k .vault }
 
-never : {P : Type 0} {b : Bool} → b ≡ false → b ≡ true → P
+pub never : {P : Type 0} {b : Bool} → b ≡ false → b ≡ true → P
 never e f = absurd (true≢false (sym f ∙ e))
 
 module _ (k : Card) (h : SoundRecord k) where
@@ -267,64 +268,67 @@ always-sound = record {
   always = λ n msid es m. is-true _ (sound-decides _) (run-sound _ es (factory-sound n msid m));
 }
 
--- ---- the record's size stays
-cleared-size : (c : Cells) (w : Who) → A.cleared c w .n ≡ c .n
+-- ---- the record's size and its MSID stay
+abbrev made : Cells → ℕ × List ℕ
+made c = (c .n, c .msid)
+
+cleared-made : (c : Cells) (w : Who) → made (A.cleared c w) ≡ made c
 unfolding A.cleared
-cleared-size c W.Unknown = refl
-cleared-size c W.Anybody = refl
-cleared-size c W.Class = refl
-cleared-size c (W.Row r) = refl
+cleared-made c W.Unknown = refl
+cleared-made c W.Anybody = refl
+cleared-made c W.Class = refl
+cleared-made c (W.Row r) = refl
 
-change-size : (c : Cells) (x : Change) → A.change c x .n ≡ c .n
+change-made : (c : Cells) (x : Change) → made (A.change c x) ≡ made c
 unfolding A.change
-change-size c C.Nothing = refl
-change-size c (C.PutPin r p n) = refl
-change-size c (C.PutEnabled r on) = refl
-change-size c (C.PutRange i e) = refl
-change-size c (C.PutMbr e) = refl
-change-size c (C.PutResettable on) = refl
-change-size c C.Activate = refl
-change-size c C.RevertLocking = refl
-change-size c C.RevertAdmin = refl
-change-size c C.RevertSp = refl
+change-made c C.Nothing = refl
+change-made c (C.PutPin r p n) = refl
+change-made c (C.PutEnabled r on) = refl
+change-made c (C.PutRange i e) = refl
+change-made c (C.PutMbr e) = refl
+change-made c (C.PutResettable on) = refl
+change-made c C.Activate = refl
+change-made c C.RevertLocking = refl
+change-made c C.RevertAdmin = refl
+change-made c C.RevertSp = refl
 
-apply-size : (c : Cells) (d : Decision) → A.apply c d .n ≡ c .n
+apply-made : (c : Cells) (d : Decision) → made (A.apply c d) ≡ made c
 unfolding A.apply
-apply-size c (D.Refuse e) = refl
-apply-size c (D.NotStarted e) = refl
-apply-size c (D.Missed r) = refl
-apply-size c (D.Started locking hsn w) = cleared-size c w
-apply-size c D.Denied = refl
-apply-size c (D.Mistaken r) = refl
-apply-size c (D.Proved w) = cleared-size c w
-apply-size c (D.Told o first last) = refl
-apply-size c (D.Done x) = change-size c x
-apply-size c D.Began = refl
-apply-size c D.BeganAlready = refl
-apply-size c D.Committed = refl
-apply-size c D.Abandoned = refl
-apply-size c D.NoneOpen = refl
-apply-size c D.Ended = refl
-apply-size c D.Broke = refl
+apply-made c (D.Refuse e) = refl
+apply-made c (D.NotStarted e) = refl
+apply-made c (D.Missed r) = refl
+apply-made c (D.Started locking hsn w) = cleared-made c w
+apply-made c D.Denied = refl
+apply-made c (D.Mistaken r) = refl
+apply-made c (D.Proved w) = cleared-made c w
+apply-made c (D.Told o first last) = refl
+apply-made c (D.Done x) = change-made c x
+apply-made c D.Began = refl
+apply-made c D.BeganAlready = refl
+apply-made c D.Committed = refl
+apply-made c D.Abandoned = refl
+apply-made c D.NoneOpen = refl
+apply-made c D.Ended = refl
+apply-made c D.Broke = refl
 
-reply-size : (k : Card) (x : Heard) → Z.replyTo k x .card .cells .n ≡ k .cells .n
+reply-made : (k : Card) (x : Heard) → made (Z.replyTo k x .card .cells) ≡ made (k .cells)
 unfolding Z.replyTo
-reply-size k (Z.turned n) = refl
-reply-size k (Z.judged tsn hsn s j) = apply-size (k .cells) (Y.decided (k .vault) s j)
+reply-made k (Z.turned n) = refl
+reply-made k (Z.judged tsn hsn s j) = apply-made (k .cells) (Y.decided (k .vault) s j)
 
-next-size : (k : Card) (e : Event) → next k e .cells .n ≡ k .cells .n
+pub next-made : (k : Card) (e : Event) → made (next k e .cells) ≡ made (k .cells)
 unfolding next Z.power Z.reset
-next-size k (packet room s) = reply-size k (Z.heard k room s)
-next-size k powered = cond-ind (λ (r : Z.Reply). r .card .cells .n ≡ k .cells .n) (sound k) _ _ (λ _. refl) (λ _. refl)
-next-size k wasReset =
-    cond-ind (λ (r : Z.Reply). r .card .cells .n ≡ k .cells .n) (not (sound k)) _ _ (λ _. refl) λ _.
-    cond-ind (λ (r : Z.Reply). r .card .cells .n ≡ k .cells .n) (not (A.settledTables (k .cells) .resettable)) _ _ (λ _. refl) (λ _. refl)
-next-size k (asked write start count) = refl
+next-made k (packet room s) = reply-made k (Z.heard k room s)
+next-made k powered = cond-ind (λ (r : Z.Reply). made (r .card .cells) ≡ made (k .cells)) (sound k) _ _ (λ _. refl) (λ _. refl)
+next-made k wasReset =
+    cond-ind (λ (r : Z.Reply). made (r .card .cells) ≡ made (k .cells)) (not (sound k)) _ _ (λ _. refl) λ _.
+    cond-ind (λ (r : Z.Reply). made (r .card .cells) ≡ made (k .cells)) (not (A.settledTables (k .cells) .resettable)) _ _ (λ _. refl) (λ _. refl)
+next-made k (asked write start count) = refl
 
-run-size : (k : Card) (es : List Event) → run k es .cells .n ≡ k .cells .n
+run-made : (k : Card) (es : List Event) → made (run k es .cells) ≡ made (k .cells)
 unfolding run
-run-size k [] = refl
-run-size k (e ∷ es) = run-size (next k e) es ∙ next-size k e
+run-made k [] = refl
+run-made k (e ∷ es) = run-made (next k e) es ∙ next-made k e
 
 -- ---- ranges
 apart-and-shared : (n : ℕ) (t : Tables) → SoundTables n t → ApartAndShared (t .rows) n
@@ -345,4 +349,8 @@ apart-and-shared n t h = record {
 pub ranges-apart : RangesApart
 ranges-apart n msid es m =
     let k = run (R.factoryCard n msid) es in
-    (run-size _ es, apart-and-shared n _ (subst (λ (x : ℕ). SoundTables x (k .cells .tables)) (run-size _ es) (run-sound _ es (factory-sound n msid m) .tables)))
+    let h = run-sound _ es (factory-sound n msid m) in
+    let size = ap (λ x. x .0) (run-made (R.factoryCard n msid) es) in
+    let sized : (t : Tables) → SoundTables (k .cells .n) t → ApartAndShared (t .rows) n
+    = λ t f. apart-and-shared n t (subst (λ (x : ℕ). SoundTables x t) size f) in
+    (size, sized _ (h .tables), λ o. sized _ (h .was o .0))

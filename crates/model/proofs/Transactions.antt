@@ -1,24 +1,29 @@
 -- A transaction keeps the tables and PINs from before it until it ends: an abandon puts them back, a commit does not, and before it nothing shows.
 use Prim.Native.Nat.{ℕ}
-use mathlib.Core.Path.{_≡_, refl, sym, _∙_, ap}
+use mathlib.Core.Path.{_≡_, refl, sym, _∙_, ap, subst}
 use mathlib.Core.Bool.{Bool, true, false, not, cond, true≢false}
 use mathlib.Core.List.{List, [], _∷_}
-use mathlib.Core.Logic.{_≢_, _⊎_, inl, inr}
+use mathlib.Core.Logic.{inl, inr}
 use native.Mathlib.Omega.{arith}
 use native.Mathlib.Decide.{ℕ-discrete}
+use Rattle.ranges.specs.Media.{mediaOf}
+use Rattle.payload.specs.declared.Payload.the-variants as P
 use Rattle.model.specs.Types.{Undo, Cells, Secret, Card, Who, Change, Decision}
 use Rattle.model.specs.declared.Who.the-variants as W
 use Rattle.model.specs.declared.Change.the-variants as C
 use Rattle.model.specs.declared.Decision.the-variants as D
+use Rattle.model.specs.declared.Ruling.the-variants as G
 use Rattle.model.specs.Sound.{sound}
 use Rattle.model.specs.Vault.{givenUp, obeyChange, obey}
 use Rattle.model.specs.Apply.{settledTables, cleared, change, apply, relocked, tperReset, powerCycle}
 use Rattle.model.specs.Step.{after, Reply, resetTo, power, reset, media, Event, packet, powered, wasReset, asked, next, run}
 use Rattle.model.specs.Seen.{Taken, nothing, took, taken}
-use Rattle.model.specs.Laws.{Abandons, Resets, Commits, Leaves, Inside, Transaction, within, PutBack, AbandonPutsBack, CommitKeeps, NothingShows}
+use Rattle.model.specs.Sent.{Sends}
+use Rattle.model.specs.Laws.{Begins, Abandons, Resets, Commits, Leaves, Inside, Transaction, within, PutBack, AbandonPutsBack, CommitKeeps, NothingShows}
 use Rattle.model.proofs.TurnedAway.{reset-keeps}
 use Rattle.model.proofs.Moves.{rests, moves, number-of}
 use Rattle.model.proofs.Decisions.{Fits, decision-fits}
+use Rattle.model.proofs.Sent.{Dies, begins-taken, commits-taken, abandon-taken, abandons-taken}
 
 -- what a transaction keeps, and the disk's size
 abbrev held : Card → Undo × List Secret × ℕ
@@ -52,37 +57,32 @@ cleared-held k W.Anybody = refl
 cleared-held k W.Class = refl
 cleared-held k (W.Row r) = refl
 
-abbrev Dies : Decision → Type 0
-Dies d = (d ≡ D.Abandoned) ⊎ ((d ≡ D.Ended) ⊎ (d ≡ D.Broke))
-
-by-decision : (k : Card) (s : List ℕ) (d : Decision) → Fits (k .cells) d → k .cells .undo .live ≡ true → (d ≢ D.Committed) → (Dies d → ⊥)
+-- a decision says what came in
+by-decision : (k : Card) (e : Event) (s : List ℕ) (d : Decision) → Fits (Sends k e) (k .cells) d → k .cells .undo .live ≡ true → (Leaves k e → ⊥)
     → held (after k s d) ≡ held k
 unfolding apply obey
-by-decision k s (D.Refuse x) f o m n = refl
-by-decision k s (D.NotStarted x) f o m n = refl
-by-decision k s (D.Missed r) f o m n = refl
-by-decision k s (D.Started locking hsn w) f o m n = cleared-held k w
-by-decision k s D.Denied f o m n = refl
-by-decision k s (D.Mistaken r) f o m n = refl
-by-decision k s (D.Proved w) f o m n = cleared-held k w
-by-decision k s (D.Told x first last) f o m n = refl
-by-decision k s (D.Done x) f o m n = by-change k s x
-by-decision k s D.Began f o m n = absurd (true≢false (sym o ∙ f))
-by-decision k s D.BeganAlready f o m n = refl
-by-decision k s D.Committed f o m n = absurd (m refl)
-by-decision k s D.Abandoned f o m n = absurd (n (inl refl))
-by-decision k s D.NoneOpen f o m n = refl
-by-decision k s D.Ended f o m n = absurd (n (inr (inl refl)))
-by-decision k s D.Broke f o m n = absurd (n (inr (inr refl)))
+by-decision k e s (D.Refuse x) f o n = refl
+by-decision k e s (D.NotStarted x) f o n = refl
+by-decision k e s (D.Missed r) f o n = refl
+by-decision k e s (D.Started locking hsn w) f o n = cleared-held k w
+by-decision k e s D.Denied f o n = refl
+by-decision k e s (D.Mistaken r) f o n = refl
+by-decision k e s (D.Proved w) f o n = cleared-held k w
+by-decision k e s (D.Told x first last) f o n = refl
+by-decision k e s (D.Done x) f o n = by-change k s x
+by-decision k e s D.Began f o n = absurd (true≢false (sym o ∙ f .1))
+by-decision k e s D.BeganAlready f o n = refl
+by-decision k e s D.Committed f o n = absurd (n (inl f))
+by-decision k e s D.Abandoned f o n = absurd (n (inr (inl (inl f))))
+by-decision k e s D.NoneOpen f o n = refl
+by-decision k e s D.Ended f o n = absurd (n (inr (inl (inr (inl f)))))
+by-decision k e s D.Broke f o n = absurd (n (inr (inl (inr (inr f)))))
 
 by-taken : (k : Card) (room : ℕ) (p : List ℕ) (t : Taken) → taken k (packet room p) ≡ t → k .cells .undo .live ≡ true → (Leaves k (packet room p) → ⊥)
     → held (next k (packet room p)) ≡ held k
 by-taken k room p nothing e o n = ap held (rests k room p e)
 by-taken k room p (took s d) e o n =
-    ap held (moves k (packet room p) s d e)
-    ∙ by-decision k s d (decision-fits k (packet room p) s d e) o
-    (λ c. n (inl (s, e ∙ ap (took s) c)))
-    (λ c. n (inr (inl (s, d, e, c))))
+    ap held (moves k (packet room p) s d e) ∙ by-decision k (packet room p) s d (decision-fits k (packet room p) s d e) o n
 
 by-number : (k : Card) → Dec (reset k .number ≡ 0) → (Leaves k wasReset → ⊥) → next k wasReset ≡ k
 unfolding next
@@ -115,12 +115,8 @@ at-begin k s = record { live = refl; tables = refl; pins = refl; size = refl }
 
 in-it : (k : Card) (e : Event) (es : List Event) → Transaction k e es → In k (within k e es)
 in-it k e es t =
-    let (s, b) = t .begins in
+    let (s, b) = begins-taken k e (t .begins) in
     over-run k (next k e) es (rw (moves k e s D.Began b) (at-begin k s)) (t .inside)
-
--- it began where none was open
-none-before : (k : Card) (e : Event) (es : List Event) → Transaction k e es → k .cells .undo .live ≡ false
-none-before k e es t = decision-fits k e (t .begins .0) D.Began (t .begins .1)
 
 -- ---- the tables and PINs that stand when the transaction is given up
 abbrev settledPins : Card → List Secret
@@ -144,27 +140,36 @@ unfolding apply obey
 at-commit k s = record { tables = refl; pins = refl; closed = refl }
 
 -- with none open the end of the session keeps all, and nothing is abandoned
-at-none : (k : Card) (s : List ℕ) (d : Decision) → k .cells .undo .live ≡ false → Fits (k .cells) d → Dies d → PutBack k (after k s d)
+at-none : (k : Card) (y : Event) (s : List ℕ) (d : Decision) → k .cells .undo .live ≡ false → Fits (Sends k y) (k .cells) d → Dies d → PutBack k (after k s d)
 unfolding apply obey
-at-none k s d o f (inl h) = absurd (true≢false (sym (rw h at f) ∙ o))
-at-none k s d o f (inr (inl h)) = rw h (record { tables = settled-none k o .0; pins = settled-none k o .1; closed = refl })
-at-none k s d o f (inr (inr h)) = rw h (record { tables = settled-none k o .0; pins = settled-none k o .1; closed = refl })
+at-none k y s d o f (inl h) = absurd (true≢false (sym (subst (Fits (Sends k y) (k .cells)) h f .1) ∙ o))
+at-none k y s d o f (inr (inl h)) = rw h (record { tables = settled-none k o .0; pins = settled-none k o .1; closed = refl })
+at-none k y s d o f (inr (inr h)) = rw h (record { tables = settled-none k o .0; pins = settled-none k o .1; closed = refl })
 
 put-back : (j k l : Card) → PutBack j k → PutBack k l → PutBack j l
 put-back j k l p q = record { tables = q .tables ∙ p .tables; pins = q .pins ∙ p .pins; closed = q .closed }
 
 committed : (k : Card) (z : Event) → Commits k z → PutBack k (next k z)
-committed k z c = rw (moves k z (c .0) D.Committed (c .1)) (at-commit k (c .0))
+committed k z c = let (s, t) = commits-taken k z c in rw (moves k z s D.Committed t) (at-commit k s)
 
 others-stay : (k : Card) (s : List ℕ) → (after k s D.Committed .cells .session ≡ k .cells .session) × (after k s D.Committed .cells .pins ≡ k .cells .pins)
 unfolding apply
 others-stay k s = (refl, refl)
 
+begun-tables : (k : Card) (s : List ℕ) → after k s D.Began .cells .tables ≡ k .cells .tables
+unfolding apply
+begun-tables k s = refl
+
+begun : (k : Card) (e : Event) → Begins k e → next k e .cells .tables ≡ k .cells .tables
+begun k e b = let (s, t) = begins-taken k e b in rw (moves k e s D.Began t) (begun-tables k s)
+
 others : (k : Card) (z : Event) → Commits k z → (next k z .cells .session ≡ k .cells .session) × (next k z .cells .pins ≡ k .cells .pins)
-others k z c = rw (moves k z (c .0) D.Committed (c .1)) (others-stay k (c .0))
+others k z c = let (s, t) = commits-taken k z c in rw (moves k z s D.Committed t) (others-stay k s)
 
 ended-after : (k : Card) (y : Event) → k .cells .undo .live ≡ false → Abandons k y → PutBack k (next k y)
-ended-after k y o a = rw (moves k y (a .0) (a .1) (a .2)) (at-none k (a .0) (a .1) o (decision-fits k y (a .0) (a .1) (a .2)) (a .3))
+ended-after k y o a =
+    let (d, (s, t), x) = abandons-taken k y a in
+    rw (moves k y s d t) (at-none k y s d o (decision-fits k y s d t) x)
 
 -- with none open a reset keeps the PINs
 record SamePins (k : Card) (r : Reply) : Type 0 where
@@ -206,7 +211,7 @@ commit-keeps = record {
 }
 
 abandoned : (j k : Card) (z : Event) → In j k → Abandons k z → PutBack j (next k z)
-abandoned j k z i a = rw (moves k z (a .0) (a .1) (a .2)) (at-end j k (a .0) (a .1) i (a .3))
+abandoned j k z i a = let (d, (s, t), x) = abandons-taken k z a in rw (moves k z s d t) (at-end j k s d i x)
 
 -- what outlives it
 tries-stay : (c : Cells) (d : Decision) → Dies d → apply c d .pins ≡ c .pins
@@ -216,21 +221,21 @@ tries-stay c d (inr (inl h)) = rw h refl
 tries-stay c d (inr (inr h)) = rw h refl
 
 tries-outlive : (k : Card) (z : Event) → Abandons k z → next k z .cells .pins ≡ k .cells .pins
-tries-outlive k z a = rw (moves k z (a .0) (a .1) (a .2)) (tries-stay (k .cells) (a .1) (a .3))
+tries-outlive k z a = let (d, (s, t), x) = abandons-taken k z a in rw (moves k z s d t) (tries-stay (k .cells) d x)
 
 session-stays : (k : Card) (s : List ℕ) → after k s D.Abandoned .cells .session ≡ k .cells .session
 unfolding apply
 session-stays k s = refl
 
-proved-outlives : (k : Card) (z : Event) (s : List ℕ) → taken k z ≡ took s D.Abandoned → next k z .cells .session ≡ k .cells .session
-proved-outlives k z s b = rw (moves k z s D.Abandoned b) (session-stays k s)
+proved-outlives : (k : Card) (z : Event) → k .cells .undo .live ≡ true → Sends k z P.Abandon → next k z .cells .session ≡ k .cells .session
+proved-outlives k z o i = let (s, t) = abandon-taken k z i o in rw (moves k z s D.Abandoned t) (session-stays k s)
 
 -- ---- the resets and the media go by what stands when it is given up
-power-card : (k : Card) → sound k ≡ true → power k .card ≡ resetTo k (powerCycle (k .cells))
+pub power-card : (k : Card) → sound k ≡ true → power k .card ≡ resetTo k (powerCycle (k .cells))
 unfolding power
 power-card k h = rw h refl
 
-reset-card : (k : Card) → sound k ≡ true → settledTables (k .cells) .resettable ≡ true → reset k .card ≡ resetTo k (tperReset (k .cells))
+pub reset-card : (k : Card) → sound k ≡ true → settledTables (k .cells) .resettable ≡ true → reset k .card ≡ resetTo k (tperReset (k .cells))
 unfolding reset
 reset-card k h g = rw (h, g) refl
 
@@ -279,7 +284,7 @@ module _ (steps : (k : Card) (e : Event) → sound k ≡ true → sound (next k 
   stands : (k : Card) (e : Event) (es : List Event) → Transaction k e es → Stands k (within k e es)
   stands k e es t =
       let i = settled-open k (within k e es) (in-it k e es t) in
-      let o = settled-none k (none-before k e es t) in
+      let o = settled-none k (t .begins .1) in
       record {
         first = t .sound;
         now = sound-run (next k e) es (steps k e (t .sound));
@@ -292,13 +297,25 @@ module _ (steps : (k : Card) (e : Event) → sound k ≡ true → sound (next k 
   abandon-puts-back = record {
     abandoned = λ k e es z t a. abandoned k (within k e es) z (in-it k e es t) a;
     tries = λ k e es z t a. tries-outlive (within k e es) z a;
-    proved = λ k e es z s t b. proved-outlives (within k e es) z s b;
+    proved = λ k e es z t i. proved-outlives (within k e es) z (in-it k e es t .live) i;
     by-power = λ k e es t. power-stands k (within k e es) (stands k e es t);
     by-reset = λ k e es t z. reset-stands k (within k e es) (stands k e es t) z;
   }
 
+  verdict : (k : Card) (write : Bool) (start count : ℕ) → sound k ≡ true → k .cells .undo .live ≡ false → let t = k .cells .tables in
+      media k write start count ≡ G.Ruled (mediaOf (t .rows) (t .mbr) (t .active) (k .cells .n) write start count)
+  unfolding media
+  verdict k write start count h o = rw (h, o) refl
+
+  asks : (k : Card) (write : Bool) (start count : ℕ) → next k (asked write start count) ≡ k
+  unfolding next
+  asks k write start count = refl
+
   pub nothing-shows : NothingShows
   nothing-shows = record {
+    verdict = verdict;
     media = λ k e es write start count t. media-stands k (within k e es) write start count (stands k e es t);
     number = λ k e es t. number-stands k (within k e es) (stands k e es t);
+    asks = asks;
+    begins = begun;
   }

@@ -34,9 +34,10 @@ use Rattle.model.specs.Uids as U
 use Rattle.model.specs.Judge as J
 use Rattle.model.specs.Step as Z
 use Rattle.model.proofs.Legal as L
-use Rattle.model.proofs.Legal.{KnownWho, LegalChange, Legal, Fair, surely, either, FairHeard, away, taken, Placed, need-ind, cond-ind, both}
+use Rattle.model.proofs.Cases.{cond-ind, both}
+use Rattle.model.proofs.Legal.{KnownWho, LegalChange, Legal, Fair, surely, either, FairHeard, away, taken, Placed, need-ind}
 
-implies : (a b : Bool) → imp a b ≡ true → a ≡ true → b ≡ true
+pub implies : (a b : Bool) → imp a b ≡ true → a ≡ true → b ≡ true
 implies true b e h = e
 implies false b e h = absurd (true≢false (sym h))
 
@@ -105,7 +106,7 @@ change-legal c s t L.sp-locking e = tt
 change-legal c s t L.this-sp e = tt
 change-legal c s t (L.authority l m) e = flag-legal c _ _ (λ on. (l, m))
 change-legal c s t (L.pin {r = r} l m) e = pin-legal c r (columnAt t 3) m e
-change-legal c s t L.range e =
+change-legal c s t (L.range _) e =
     range-legal (J.isNumber (columnAt t 3)) (J.isNumber (columnAt t 4)) (J.isFlag (columnAt t 5)) (J.isFlag (columnAt t 6)) (J.isFlag (columnAt t 7))
     (J.isFlag (columnAt t 8)) (J.isResets s (columnAt t 9)) _ e
 change-legal c s t L.mbr-control e = tt
@@ -147,7 +148,7 @@ module _ (c : Cells) (live : c .session .live ≡ true) where
   revert-legal L.this-sp e none = tt
   revert-legal (L.authority l m) e none = tt
   revert-legal (L.pin l m) e none = tt
-  revert-legal L.range e none = tt
+  revert-legal (L.range _) e none = tt
   revert-legal L.mbr-control e none = tt
   revert-legal L.nothing e none = tt
 

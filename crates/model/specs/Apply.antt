@@ -6,7 +6,7 @@ use lib.ListN.{set, replicate}
 use lib.Dec.{ltb}
 use Rattle.ranges.specs.Set.{edited, flagOf}
 use Rattle.ranges.specs.Reset.{resetRows, resetMbr}
-use Rattle.model.specs.Types.{Tsn, Hsn, Mbr, Tables, PinRow, Session, Undo, Cells, Who, MbrEdit, Change, Decision}
+use Rattle.model.specs.Types.{Tsn, Hsn, Mbr, Tables, PinRow, Session, Cells, Who, MbrEdit, Change, Decision}
 use Rattle.model.specs.declared.Who.the-variants as W
 use Rattle.model.specs.declared.Change.the-variants as C
 use Rattle.model.specs.declared.Decision.the-variants as D

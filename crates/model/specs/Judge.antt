@@ -1,5 +1,5 @@
 -- What is decided of a request, in document 01's order of checks. No PIN is seen here: where one must be compared, that is said, with what follows either way.
-use Prim.Native.Nat.{ℕ, _+_}
+use Prim.Native.Nat.{ℕ}
 use mathlib.Core.Bool.{Bool, true, false, not, _&&_, _||_, cond}
 use mathlib.Core.List.{List}
 use lib.Dec.{leb, ltb, eqb}
@@ -11,7 +11,7 @@ use Rattle.ranges.specs.declared.Number.{Number}
 use Rattle.ranges.specs.declared.Number.the-variants as N
 use Rattle.ranges.specs.Set.{setOk}
 use Rattle.value.specs.Value.{Values}
-use Rattle.value.specs.Read.{Out, valuesAt}
+use Rattle.value.specs.Read.{Out}
 use Rattle.item.specs.declared.Slot.{Slot}
 use Rattle.item.specs.declared.Slot.the-variants as S
 use Rattle.params.specs.declared.Columns.{Columns}
@@ -26,7 +26,7 @@ use Rattle.params.specs.declared.Resets.the-variants as X
 use Rattle.params.specs.Names.{given, nothing, uidOf}
 use Rattle.params.specs.Columns.{columnCount, columnAt, free, good}
 use Rattle.params.specs.Params.{noBlock, noColumns, noStart, noProof, getOf, setOf, startOf, proofOf, resetsAt}
-use Rattle.model.specs.Types.{Hsn, Tables, Session, Cells, Object, Who, Status, MbrEdit, Change, Decision, Judged}
+use Rattle.model.specs.Types.{Tables, Cells, Object, Who, MbrEdit, Change, Decision, Judged}
 use Rattle.model.specs.declared.Judged.the-variants.{Settled, Compare}
 use Rattle.model.specs.declared.Object.the-variants as O
 use Rattle.model.specs.declared.Who.the-variants as W
@@ -35,7 +35,7 @@ use Rattle.model.specs.declared.Change.the-variants as C
 use Rattle.model.specs.declared.Decision.the-variants as D
 use Rattle.model.specs.Record.{tryLimit, pinBytes, triesAt, enabledAt}
 use Rattle.model.specs.Uids as U
-use Rattle.model.specs.Access.{inTable, allowed, allowedColumn, lastColumn, selfOf}
+use Rattle.model.specs.Access.{inTable, allowed, allowedColumn, lastColumn}
 
 -- go on where the test passes, and else be refused
 unfoldable pub need : Bool → Decision → Judged → Judged

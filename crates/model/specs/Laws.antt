@@ -6,16 +6,19 @@ use mathlib.Core.List.{List, [], _∷_}
 use mathlib.Core.Logic.{_≢_, _⊎_}
 use lib.ListN.{length, getD, replicate}
 use Rattle.ranges.specs.Decides.{Decides}
-use Rattle.ranges.specs.Row.{rowCount, noRow, rowAt, Holds}
+use Rattle.ranges.specs.Row.{rowCount, rowAt, Holds}
 use Rattle.ranges.specs.Fit.{Fit}
 use Rattle.ranges.specs.Owner.{share, sum}
-use Rattle.model.specs.Types.{Mbr, Tables, PinRow, Session, Cells, Secret, Vault, Card, Decision}
-use Rattle.model.specs.declared.Status.the-variants as E
+use Rattle.ranges.specs.Media.{mediaOf}
+use Rattle.payload.specs.declared.Payload.the-variants as P
+use Rattle.model.specs.Types.{Tables, Session, Secret, Card, Decision}
 use Rattle.model.specs.declared.Decision.the-variants as D
+use Rattle.model.specs.declared.Ruling.the-variants as G
 use Rattle.model.specs.Record as R
 use Rattle.model.specs.Sound.{sound}
-use Rattle.model.specs.Step.{Event, packet, powered, wasReset, asked, command, power, reset, media, next, run}
-use Rattle.model.specs.Seen.{Sight, sees, trace, Answered, answered, Taken, nothing, took, taken}
+use Rattle.model.specs.Step.{Event, powered, wasReset, asked, command, power, reset, media, next, run}
+use Rattle.model.specs.Sent.{Sends}
+use Rattle.model.specs.Seen.{trace, answered, took, taken}
 
 -- ---- soundness, clause by clause
 pub record SoundTables (n : ℕ) (t : Tables) : Type 0 where
@@ -78,9 +81,12 @@ pub record ApartAndShared (rows : List _) (n : ℕ) : Type 0 where
   pub each : (i : ℕ) → 1 ≤ i → i < length rows → share rows n i ≡ rowAt rows i .length
   pub shares : sum (share rows n) (length rows) ≡ n
 
+-- the rows from before an open transaction too
 abbrev pub RangesApart : Type 0
 RangesApart = (n : ℕ) (msid : List ℕ) (es : List Event) → Made n msid
-    → (run (R.factoryCard n msid) es .cells .n ≡ n) × ApartAndShared (run (R.factoryCard n msid) es .cells .tables .rows) n
+    → (run (R.factoryCard n msid) es .cells .n ≡ n)
+    × ApartAndShared (run (R.factoryCard n msid) es .cells .tables .rows) n
+    × (run (R.factoryCard n msid) es .cells .undo .live ≡ true → ApartAndShared (run (R.factoryCard n msid) es .cells .undo .was .rows) n)
 
 -- ---- "A request turned away by number leaves the record and the answer buffer untouched"
 pub record TurnedAway : Type 0 where
@@ -119,15 +125,16 @@ abbrev pub RefusedKeeps : Type 0
 RefusedKeeps = (k : Card) (e : Event) (s : List ℕ) (d : Decision) → taken k e ≡ took s d → Refuses d → OnlyTries k (next k e)
 
 -- ---- transactions
+-- FB where none is open, FC 00 where one is
 abbrev pub Begins : Card → Event → Type 0
-Begins k e = (s : List ℕ) × (taken k e ≡ took s D.Began)
+Begins k e = Sends k e P.Begin × (k .cells .undo .live ≡ false)
 
 abbrev pub Commits : Card → Event → Type 0
-Commits k e = (s : List ℕ) × (taken k e ≡ took s D.Committed)
+Commits k e = Sends k e P.Commit × (k .cells .undo .live ≡ true)
 
 -- the ways in which a transaction dies: FC 01, the end of the session, a broken payload; and the two resets, which lock too
 abbrev pub Abandons : Card → Event → Type 0
-Abandons k e = (s : List ℕ) × (d : Decision) × (taken k e ≡ took s d) × ((d ≡ D.Abandoned) ⊎ ((d ≡ D.Ended) ⊎ (d ≡ D.Broke)))
+Abandons k e = (Sends k e P.Abandon × (k .cells .undo .live ≡ true)) ⊎ (Sends k e P.EndSession ⊎ Sends k e P.Broken)
 
 abbrev pub Resets : Card → Event → Type 0
 Resets k e = (e ≡ powered) ⊎ ((e ≡ wasReset) × (reset k .number ≡ 0))
@@ -160,7 +167,7 @@ pub record AbandonPutsBack : Type 0 where
   -- "Authentications and Tries outlive an abandoned transaction"
   pub tries : (k : Card) (e : Event) (es : List Event) (z : Event) → Transaction k e es → Abandons (within k e es) z
       → next (within k e es) z .cells .pins ≡ within k e es .cells .pins
-  pub proved : (k : Card) (e : Event) (es : List Event) (z : Event) (s : List ℕ) → Transaction k e es → taken (within k e es) z ≡ took s D.Abandoned
+  pub proved : (k : Card) (e : Event) (es : List Event) (z : Event) → Transaction k e es → Sends (within k e es) z P.Abandon
       → next (within k e es) z .cells .session ≡ within k e es .cells .session
   -- after a reset it is as if the reset had come before the transaction began
   pub by-power : (k : Card) (e : Event) (es : List Event) → Transaction k e es
@@ -181,6 +188,12 @@ pub record CommitKeeps : Type 0 where
 
 -- "With a transaction open, media questions and number 7 go by the cells from before it"
 pub record NothingShows : Type 0 where
+  -- outside a transaction the verdict is that of the record's own tables
+  pub verdict : (k : Card) (write : Bool) (start count : ℕ) → sound k ≡ true → k .cells .undo .live ≡ false → let t = k .cells .tables in
+      media k write start count ≡ G.Ruled (mediaOf (t .rows) (t .mbr) (t .active) (k .cells .n) write start count)
   pub media : (k : Card) (e : Event) (es : List Event) (write : Bool) (start count : ℕ) → Transaction k e es
       → media (within k e es) write start count ≡ media k write start count
   pub number : (k : Card) (e : Event) (es : List Event) → Transaction k e es → reset (within k e es) .number ≡ reset k .number
+  -- "A media question changes nothing", and neither does the beginning of a transaction change a table
+  pub asks : (k : Card) (write : Bool) (start count : ℕ) → next k (asked write start count) ≡ k
+  pub begins : (k : Card) (e : Event) → Begins k e → next k e .cells .tables ≡ k .cells .tables

@@ -1,4 +1,4 @@
--- Document 01's rules as definitions, in the order in which a packet meets them.
+-- Document 01's rules as definitions, in the order in which a packet meets them, and the laws over them.
 pub mod Types
 pub mod Record
 pub mod Sound
@@ -10,6 +10,21 @@ pub mod Apply
 pub mod Answer
 pub mod Step
 pub mod Seen
+pub mod Sent
 pub mod Laws
 pub mod Numbers
+pub mod Short
+pub mod Single
+pub mod Literals
 pub mod Words
+pub mod Standing
+pub mod Wants
+pub mod Calls
+pub mod Statuses
+pub mod Effects
+pub mod Signs
+pub mod Tries
+pub mod Packets
+pub mod Proved
+pub mod Pins
+pub mod Resets

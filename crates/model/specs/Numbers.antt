@@ -13,21 +13,16 @@ use Rattle.model.specs.Types.{Card}
 use Rattle.model.specs.Record.{factoryCard}
 use Rattle.model.specs.Sound.{sound}
 use Rattle.model.specs.Step.{Event, command, power, reset, rulingNumber, media, run}
+use Rattle.model.specs.Sent.{Says, InSession}
 use Rattle.model.specs.Laws.{Made}
 
 -- n is i where P is so; where it is not, n is what follows
 abbrev pub First : ℕ → ℕ → Type 0 → Type 0 → Type 0
 First n i P rest = (P × (n ≡ i)) ⊎ ((P → ⊥) × rest)
 
--- the envelope says these
-abbrev pub Says : List ℕ → ℕ → ℕ → ℕ → ℕ → Type 0
-Says s tsn hsn start len = openedOf s ≡ O.Packet (record { 0 = tsn }) (record { 0 = hsn }) start len
-
 -- "TSN, HSN neither 0, 0 nor the open session"
 abbrev pub Neither : Card → ℕ → ℕ → Type 0
-Neither k tsn hsn =
-    ((tsn ≡ 0) × (hsn ≡ 0) → ⊥)
-    × ((k .cells .session .live ≡ true) × (k .cells .session .tsn .0 ≡ tsn) × (k .cells .session .hsn .0 ≡ hsn) → ⊥)
+Neither k tsn hsn = ((tsn ≡ 0) × (hsn ≡ 0) → ⊥) × (InSession k tsn hsn → ⊥)
 
 -- "payload broken, or no call, on 0, 0"
 abbrev pub NoCall : List ℕ → ℕ → ℕ → ℕ → ℕ → Type 0

@@ -1,10 +1,10 @@
 -- The cells by name, the record with some of them put anew, and the record as it comes from the factory.
 use Prim.Native.Nat.{ℕ, _+_, _-_}
-use mathlib.Core.Bool.{Bool, true, false, cond}
+use mathlib.Core.Bool.{Bool, true, false}
 use mathlib.Core.List.{List, [], _∷_, _++_}
 use lib.ListN.{length, getD, set, take, replicate}
 use Rattle.ranges.specs.Row.{rowCount, noRow}
-use Rattle.model.specs.Types.{Tsn, Hsn, Row, Mbr, Tables, PinRow, Session, Undo, Cells, Secret, Vault, Card}
+use Rattle.model.specs.Types.{Tsn, Row, Mbr, Tables, PinRow, Session, Undo, Cells, Secret, Card}
 
 -- SID, "Admin1-4 and User1-8"
 abbrev pub adminCount : ℕ

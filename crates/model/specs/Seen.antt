@@ -1,6 +1,6 @@
 -- What anybody sees of an event, and what was decided in it: the words of the laws.
 use Prim.Native.Nat.{ℕ}
-use mathlib.Core.Bool.{Bool, true, false}
+use mathlib.Core.Bool.{Bool}
 use mathlib.Core.List.{List, [], _∷_}
 use Rattle.model.specs.Types.{Cells, Card, Decision, Judged, Ruling}
 use Rattle.model.specs.declared.Judged.the-variants.{Settled, Compare}

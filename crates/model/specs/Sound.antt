@@ -1,15 +1,15 @@
 -- "A record is sound when every cell is in its range, no two non-global ranges share a sector and each ends within N, Tries ≤ 5, neither the next TSN
 -- nor an open session's is 0, no session is open to an inactive SP, a transaction is open only in a session, only authorities known to an open
 -- session's SP are proved, and it stays sound with a rollback copy put back."
-use Prim.Native.Nat.{ℕ, _+_}
-use mathlib.Core.Bool.{Bool, true, false, not, _&&_, cond}
+use Prim.Native.Nat.{ℕ}
+use mathlib.Core.Bool.{Bool, true, not, _&&_, cond}
 use mathlib.Core.List.{List}
 use lib.ListN.{length, getD}
 use lib.Dec.{leb, ltb, eqb}
 use Rattle.ranges.specs.Decides.{imp, all}
 use Rattle.ranges.specs.Row.{rowCount, rowAt}
 use Rattle.ranges.specs.Fit.{fitB}
-use Rattle.model.specs.Types.{Row, Mbr, Tables, PinRow, Session, Undo, Cells, Secret, Vault, Card}
+use Rattle.model.specs.Types.{Row, Mbr, Tables, PinRow, Session, Cells, Secret, Vault, Card}
 use Rattle.model.specs.Record as R
 
 -- "262,144 ≤ N ≤ 2^40"

@@ -1,9 +1,9 @@
 -- A packet from its bytes to the answer's, the resets and the media question; a step, and a run.
 use Prim.Native.Nat.{ℕ, _+_}
-use mathlib.Core.Bool.{Bool, true, false, not, _&&_, _||_, cond}
+use mathlib.Core.Bool.{Bool, true, false, not, _&&_, cond}
 use mathlib.Core.List.{List, [], _∷_, _++_}
 use lib.ListN.{length, take, drop}
-use lib.Dec.{leb, ltb, eqb}
+use lib.Dec.{ltb, eqb}
 use Rattle.packet.specs.declared.Opened.{Opened}
 use Rattle.packet.specs.declared.Opened.the-variants as O
 use Rattle.packet.specs.Envelope.{openedOf, numberOf, packetOf}
@@ -11,9 +11,8 @@ use Rattle.payload.specs.declared.Payload.{Payload}
 use Rattle.payload.specs.declared.Payload.the-variants as P
 use Rattle.payload.specs.Payload.{payloadAt}
 use Rattle.value.specs.Read.{valuesAt}
-use Rattle.ranges.specs.declared.Verdict.{Verdict}
 use Rattle.ranges.specs.Media.{mediaOf}
-use Rattle.model.specs.Types.{Tsn, Hsn, Session, Cells, Vault, Card, Decision, Judged, Outcome, Ruling}
+use Rattle.model.specs.Types.{Tsn, Hsn, Session, Cells, Card, Decision, Judged, Outcome, Ruling}
 use Rattle.model.specs.declared.Decision.the-variants as D
 use Rattle.model.specs.declared.Ruling.the-variants as G
 use Rattle.model.specs.Record as R

@@ -2,7 +2,7 @@
 use Prim.Native.Nat.{ℕ}
 use mathlib.Core.Bool.{Bool, true, false, _&&_, cond}
 use mathlib.Core.List.{List, [], _∷_}
-use lib.ListN.{set, take, drop, getD}
+use lib.ListN.{set, take, drop}
 use lib.Dec.{eqb, leb}
 use Rattle.model.specs.Types.{Secret, Vault, Change, Decision, Judged}
 use Rattle.model.specs.declared.Change.the-variants as C

@@ -1,7 +1,7 @@
 -- The access rows in document 01's words: who may have which column of which object, and which methods an object has.
 use Prim.Native.Nat.{ℕ, _≤_, _<_}
 use mathlib.Core.Path.{_≡_}
-use mathlib.Core.Bool.{Bool, true, false}
+use mathlib.Core.Bool.{true, false}
 use mathlib.Core.List.{List, [], _∷_}
 use mathlib.Core.Logic.{_≢_, _⊎_}
 use lib.ListN.{getD}
@@ -76,3 +76,7 @@ pub record AccessAsSaid : Type 0 where
   pub activates : (s : Session) → s .locking ≡ false → Decides (allowed s O.SpLocking 0x203) (Sid s)
   pub reverts : (s : Session) → s .locking ≡ false → Decides (allowed s O.SpAdmin 0x202) (Sid s) × Decides (allowed s O.SpLocking 0x202) (Sid s)
   pub revert-sps : (s : Session) → s .locking ≡ true → Decides (allowed s O.ThisSp 0x11) (Admins s)
+  -- "ThisSP: Authenticate Anybody", in both SPs
+  pub authenticates : (s : Session) → Decides (allowed s O.ThisSp 0x1c) (Unit {0})
+  -- and no column past 19
+  pub past : (s : Session) (o : Object) (m c : ℕ) → 20 ≤ c → allowedColumn s o m c ≡ false

@@ -1,4 +1,4 @@
-// The card's record and the words of its decisions. Document 01's rules are in specs/, the laws over runs in specs/Laws.antt.
+// The card's record and the words of its decisions. Document 01's rules and the laws over them are in specs/, in the order of docs/BELIEVE.md.
 use packet::Hsn;
 use packet::Tsn;
 use ranges::Edit;
@@ -9,9 +9,18 @@ use ranges::Row;
 use ranges::Verdict;
 ghost use mathlib.Core.Path.{_≡_};
 ghost use Rattle.model.specs.Apply.{missedRow, provedSession};
-ghost use Rattle.model.specs.Numbers.{NumbersInOrder, NeverUnsound};
-ghost use Rattle.model.specs.Words.{AccessAsSaid};
 ghost use Rattle.model.specs.Laws.{SoundDecided, AlwaysSound, RangesApart, TurnedAway, Secrecy, RefusedKeeps, AbandonPutsBack, CommitKeeps, NothingShows};
+ghost use Rattle.model.specs.Numbers.{NumbersInOrder, NeverUnsound};
+ghost use Rattle.model.specs.Literals.{AsInFigures};
+ghost use Rattle.model.specs.Words.{AccessAsSaid};
+ghost use Rattle.model.specs.Statuses.{StatusesAsSaid};
+ghost use Rattle.model.specs.Effects.{EffectsAsSaid};
+ghost use Rattle.model.specs.Tries.{TriesCounted};
+ghost use Rattle.model.specs.Proved.{ProvedAsTold};
+ghost use Rattle.model.specs.Pins.{PinsAsTold};
+ghost use Rattle.model.specs.Resets.{ResetsAsSaid};
+ghost use Rattle.model.specs.Single.{OneOutcome};
+ghost use Rattle.model.specs.Short.{AnswersShort};
 
 // Admin1 to Admin4, User1 to User8
 pub const ADMINS: u8 = 4;
@@ -24,6 +33,9 @@ pub const PINS: usize = 13;
 
 // The MSID's length, and a stored PIN's at the most.
 pub const PIN_BYTES: usize = 32;
+
+// Every TryLimit.
+pub const TRY_LIMIT: u8 = 5;
 
 // What a transaction puts back, PINs aside.
 pub struct Tables {
@@ -214,7 +226,7 @@ impl PinRow {
         ensures { λ r. ⌜ r ≡ missedRow self ⌝ }
     {
         let n = self.tries;
-        if n < 5 {
+        if n < TRY_LIMIT {
             self.tries = n + 1;
         }
         self
@@ -242,19 +254,19 @@ impl Session {
     }
 }
 
-// A record is sound exactly if each clause of document 01 holds.
-pub fn law_sound_clauses()
-    ensures { λ _. ⌜ SoundDecided ⌝ }
-{}
-
 // After any run from any factory record the record is sound.
 pub fn law_sound()
     ensures { λ _. ⌜ AlwaysSound ⌝ }
 {}
 
-// N stays, no two ranges share a sector, each ends within N and owns its length, and the shares add up to N, in every record that a run reaches.
-pub fn law_apart()
-    ensures { λ _. ⌜ RangesApart ⌝ }
+// A record is sound exactly if each clause of document 01 holds.
+pub fn law_sound_clauses()
+    ensures { λ _. ⌜ SoundDecided ⌝ }
+{}
+
+// From a factory record number 1 never comes.
+pub fn law_never_unsound()
+    ensures { λ _. ⌜ NeverUnsound ⌝ }
 {}
 
 // What is turned away by number leaves the record and the answer untouched.
@@ -262,14 +274,49 @@ pub fn law_refused_by_number()
     ensures { λ _. ⌜ TurnedAway ⌝ }
 {}
 
-// Demand 3: the PINs stay in.
-pub fn law_secrecy()
-    ensures { λ _. ⌜ Secrecy ⌝ }
+// The number that comes back is the lowest that applies.
+pub fn law_numbers()
+    ensures { λ _. ⌜ NumbersInOrder ⌝ }
+{}
+
+// The UIDs, columns, statuses and the factory's cells, in figures.
+pub fn law_literals()
+    ensures { λ _. ⌜ AsInFigures ⌝ }
+{}
+
+// The access table says what document 01 says in words.
+pub fn law_access()
+    ensures { λ _. ⌜ AccessAsSaid ⌝ }
+{}
+
+// What each call does to the record, cell by cell, and what a Get tells; refused, it does nothing but count a wrong PIN.
+pub fn law_effect()
+    ensures { λ _. ⌜ EffectsAsSaid ⌝ }
 {}
 
 // A method refused changes no cell but a try counter.
 pub fn law_refused()
     ensures { λ _. ⌜ RefusedKeeps ⌝ }
+{}
+
+// Each answer, byte by byte, with the status of the first fault that applies.
+pub fn law_statuses()
+    ensures { λ _. ⌜ StatusesAsSaid ⌝ }
+{}
+
+// An authority is proved exactly if its right PIN was given since the session was opened, counted from the events.
+pub fn law_proved()
+    ensures { λ _. ⌜ ProvedAsTold ⌝ }
+{}
+
+// Tries is the number of wrong PINs since it was last set to 0, counted from the events, and never above 5.
+pub fn law_tries()
+    ensures { λ _. ⌜ TriesCounted ⌝ }
+{}
+
+// A PIN changes only by a Set of it, an Activate, a restore of its SP or an abandon, and to what these say.
+pub fn law_pins()
+    ensures { λ _. ⌜ PinsAsTold ⌝ }
 {}
 
 // However a transaction ends without a commit, every cell but Tries is what it was.
@@ -282,22 +329,32 @@ pub fn law_commit()
     ensures { λ _. ⌜ CommitKeeps ⌝ }
 {}
 
-// Before the commit nothing shows on the media.
+// Before the commit nothing shows on the media; outside a transaction the verdict is the record's own, and asking changes nothing.
 pub fn law_not_shown()
     ensures { λ _. ⌜ NothingShows ⌝ }
 {}
 
-// The number that comes back is the lowest that applies.
-pub fn law_numbers()
-    ensures { λ _. ⌜ NumbersInOrder ⌝ }
+// What a power cycle and a TPER_RESET leave, cell by cell, and which TSN a session has.
+pub fn law_resets()
+    ensures { λ _. ⌜ ResetsAsSaid ⌝ }
 {}
 
-// From a factory record number 1 never comes.
-pub fn law_never_unsound()
-    ensures { λ _. ⌜ NeverUnsound ⌝ }
+// N stays, no two ranges share a sector, each ends within N and owns its length, and the shares add up to N, in every record that a run reaches.
+pub fn law_apart()
+    ensures { λ _. ⌜ RangesApart ⌝ }
 {}
 
-// The access table says what document 01 says in words.
-pub fn law_access()
-    ensures { λ _. ⌜ AccessAsSaid ⌝ }
+// Demand 3: the PINs stay in.
+pub fn law_secrecy()
+    ensures { λ _. ⌜ Secrecy ⌝ }
+{}
+
+// What a request brings back and leaves in the buffer is one outcome.
+pub fn law_one_outcome()
+    ensures { λ _. ⌜ OneOutcome ⌝ }
+{}
+
+// An answer never exceeds 2,048 bytes nor the buffer.
+pub fn law_short()
+    ensures { λ _. ⌜ AnswersShort ⌝ }
 {}
