@@ -1,0 +1,2 @@
+-- The definitions that the contracts of `access` cite.
+pub mod Rows
