@@ -1,0 +1,22 @@
+-- `put_byte` is one store.
+use mathlib.Core.Path.{refl}
+use mathlib.Core.List.{[], _∷_}
+use Rattle.token.proofs.Writes.{over-sets}
+use borrow.Author.Needs.{needs}
+use Rattle.image.proofs.put_byte.Statement.{statement}
+use Rattle.image.proofs.put_byte.Tie as tie
+
+slice-write-out : tie.Need-slice-write-out
+slice-write-out c = search needs
+
+add-result : tie.Need-add-result
+add-result c = search needs
+
+same-length : tie.Need-same-length
+same-length c = search needs
+
+returns : tie.Need-returns
+returns c = (refl, over-sets (c .args .out .now) (c .args .x ∷ []) (c .args .at) (search needs), refl)
+
+pub put-byte-spec : {M : Type 1} → statement M
+put-byte-spec = tie.close (tie.spec slice-write-out add-result same-length returns)
