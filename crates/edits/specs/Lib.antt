@@ -1,0 +1,2 @@
+-- The definitions that the contracts of `edits` cite.
+pub mod Kinds

@@ -1,0 +1,2 @@
+-- The definitions that the contracts of `judge` cite.
+pub mod Asked
