@@ -55,7 +55,7 @@ fn put(k: usize, start: u64, length: u64, n: u64) {
     }
 }
 
-fn said(v: Verdict) {
+pub fn said(v: Verdict) {
     match v {
         Verdict::Disk => {
             say::text(b" is from disk\n");

@@ -17,15 +17,22 @@ fn byte(b: u8) {
     text(b" ");
 }
 
-// The first n bytes of s, or all where it has fewer.
-pub fn some(s: &[u8], n: usize) {
+// The n bytes of s from byte first on, or those that are there.
+pub fn part(s: &[u8], first: usize, n: usize) {
     let mut i = 0;
     while i < s.len() {
-        if i < n {
-            byte(s[i]);
+        if first <= i {
+            if i - first < n {
+                byte(s[i]);
+            }
         }
         i += 1;
     }
+}
+
+// The first n bytes of s, or all where it has fewer.
+pub fn some(s: &[u8], n: usize) {
+    part(s, 0, n);
 }
 
 pub fn hex(s: &[u8]) {

@@ -1,16 +1,16 @@
--- `say::some` is safe and ends.
+-- `say::part` is safe and ends.
 use Prim.Native.Nat.{_-_}
 use native.Mathlib.Omega.{arith}
 use borrow.Author.Needs.{needs}
 use lib.ListN.{length}
-use Rattle.figures.proofs.say.some.Statement.{statement}
-use Rattle.figures.proofs.say.some.Tie as tie
+use Rattle.figures.proofs.say.part.Statement.{statement}
+use Rattle.figures.proofs.say.part.Tie as tie
 
 abbrev Inv-loop : tie.InvT-loop
-Inv-loop s n i₀ i = Unit {0}
+Inv-loop s first n i₀ i = Unit {0}
 
 abbrev μ-loop : tie.MeasureT-loop
-μ-loop s n i₀ i = length s - i
+μ-loop s first n i₀ i = length s - i
 
 loop-holds : tie.Need-loop-holds Inv-loop μ-loop
 loop-holds c = tt
@@ -33,6 +33,6 @@ loop-again c = tt
 returns : tie.Need-returns Inv-loop μ-loop
 returns c = search needs
 
-pub some-spec : {M : Type 1} → statement M
-some-spec =
+pub part-spec : {M : Type 1} → statement M
+part-spec =
     tie.close (tie.spec Inv-loop μ-loop loop-holds shared-slice-read-byte byte-requires add-i loop-less loop-again returns)
