@@ -1,0 +1,2 @@
+-- The laws that the proofs of `flamepocket` cite.
+pub mod Edge

@@ -1,0 +1,2 @@
+-- The definitions that the contracts of `flamepocket` cite.
+pub mod Library
