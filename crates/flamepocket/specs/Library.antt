@@ -1,10 +1,9 @@
 -- What the exported functions give back, and the image after them.
 use Prim.Native.Nat.{ℕ}
-use mathlib.Core.Bool.{Bool, true, not, _&&_, cond}
+use mathlib.Core.Bool.{not, _&&_, cond}
 use mathlib.Core.List.{List}
 use lib.ListN.{length}
 use lib.Dec.{eqb}
-use Rattle.ranges.specs.declared.Verdict.{Verdict}
 use Rattle.ranges.specs.declared.Verdict.the-variants as T
 use Rattle.model.specs.declared.Card.{Card}
 use Rattle.model.specs.declared.Outcome.{Outcome}

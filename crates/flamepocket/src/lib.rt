@@ -7,7 +7,6 @@ use ranges::Verdict;
 ghost use mathlib.Core.Path.{_≡_};
 ghost use mathlib.Core.Bool.{cond};
 ghost use lib.ListN.{length};
-ghost use lib.Dec.{eqb};
 ghost use Rattle.model.specs.Step.{made, command, outcomeOf, bufferOf, power, reset, media};
 ghost use Rattle.image.specs.Read.{imageOk, cardAt};
 ghost use Rattle.flamepocket.specs.Library.{returned, stored, onImage, soundOf, rulingOf, mediaOn, madeOn};
