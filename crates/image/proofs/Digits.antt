@@ -2,23 +2,16 @@
 use Prim.Native.Nat.{ℕ, zero, suc, _+_, _*_, _/_, _%_, _^_, _≤_, _<_}
 use mathlib.Core.Path.{_≡_, refl, ap, sym, _∙_}
 use mathlib.Core.List.{List, [], _∷_, _++_}
-use native.Mathlib.Nat.{pow-suc, div-lt-iff-lt-mul, div-add-mod', div-eq-of-lt, mul-add-div-right}
+use native.Mathlib.Nat.{div-add-mod', div-eq-of-lt, mul-add-div-right}
 use native.Mathlib.Omega.{arith}
 use lib.ListN.{length, getD, drop, length-drop}
 use lib.Seq.{take-suc, getD-drop}
 use lib.Dec.{lit<}
 use Rattle.token.specs.Bytes.{beVal, beOf, numberAt}
-use Rattle.token.proofs.Laws.{beVal-snoc}
+use Rattle.token.proofs.Laws.{beVal-snoc, be-val}
 use Rattle.token.proofs.Numbers.{number-there}
 use Rattle.image.specs.Read.{bytesAt}
 use Rattle.image.proofs.Segments.{Stands}
-
-be-val : (n v : ℕ) → v < 256 ^ n → beVal 0 (beOf n v) ≡ v
-unfolding beOf beVal
-be-val zero v h = omega arith
-be-val (suc n) v h =
-    rw (beVal-snoc, be-val n (v / 256) (div-lt-iff-lt-mul {k = 256} {x = v} {y = 256 ^ n} (lit< tt) .1 (rw pow-suc at h)))
-    (div-add-mod' v 256)
 
 pub number-back : (s : List ℕ) (p n v : ℕ) → n ≤ 8 → v < 256 ^ n → Stands s p n (beOf n v) → numberAt s p n ≡ v
 number-back s p n v k small h = number-there s p n k (h .0) ∙ ap (beVal 0) (h .1) ∙ be-val n v small

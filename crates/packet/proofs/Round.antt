@@ -1,28 +1,20 @@
 -- What is written is read as the same TSN, HSN and payload.
-use Prim.Native.Nat.{ℕ, zero, suc, _+_, _/_, _^_, _≤_, _<_}
+use Prim.Native.Nat.{ℕ, _+_, _^_, _≤_, _<_}
 use mathlib.Core.Path.{_≡_, refl, sym, ap, _∙_}
 use mathlib.Core.List.{List, _++_, append-assoc}
 use mathlib.Core.Bool.{true}
 use native.Mathlib.Omega.{arith}
-use native.Mathlib.Nat.{pow-suc, div-lt-iff-lt-mul, div-add-mod'}
 use lib.ListN.{length, take, drop, replicate, length-append, length-replicate}
 use lib.Seq.{take-at, drop-at}
 use lib.Dec.{lit<, lit≤}
 use Rattle.token.specs.Bytes.{beVal, beOf, numberAt}
-use Rattle.token.proofs.Laws.{beVal-snoc}
+use Rattle.token.proofs.Laws.{be-val}
 use Rattle.token.proofs.Numbers.{number-there}
 use Rattle.packet.specs.declared.Opened.the-variants as O
 use Rattle.packet.specs.Envelope.{tsnAt, hsnAt, subLength, packetLength, comLength, padOf, header, packetOf, openedOf, carried}
 use Rattle.packet.specs.Laws.{Says}
 use Rattle.packet.proofs.Envelope.{Sealed, opened-there}
 use Rattle.packet.proofs.Writes.{Carried, all-carried, header-length}
-
-be-val : (n v : ℕ) → v < 256 ^ n → beVal 0 (beOf n v) ≡ v
-unfolding beOf beVal
-be-val zero v h = omega arith
-be-val (suc n) v h =
-    rw (beVal-snoc, be-val n (v / 256) (div-lt-iff-lt-mul {k = 256} {x = v} {y = 256 ^ n} (lit< tt) .1 (rw pow-suc at h)))
-    (div-add-mod' v 256)
 
 module _ (tsn hsn n : ℕ) (q : List ℕ) where
   -- the field of k bytes at at, where the header has v

@@ -1,52 +1,20 @@
 -- What the stores of the writer leave in the buffer.
-use Prim.Native.Nat.{ℕ, zero, suc, _+_, _-_, _/_, _%_, _≤_, _<_}
+use Prim.Native.Nat.{ℕ, zero, suc, _+_, _≤_, _<_}
 use mathlib.Core.Path.{_≡_, refl, ap, _∙_}
-use mathlib.Core.List.{List, [], _∷_, _++_, append-assoc, append-nil}
+use mathlib.Core.List.{List, _++_, append-assoc}
 use mathlib.Core.Bool.{true}
 use native.Mathlib.Omega.{arith}
-use native.Mathlib.Nat.{add-zero, add-assoc}
-use native.Mathlib.Numerals.{add-one, sub-one}
-use lib.ListN.{length, take, drop, set, replicate, length-append, length-drop, length-set, take-append-drop, replicate-append-replicate}
-use lib.Seq.{take-set-le, drop-cons, drop-set-lt, getD-set-same, length-take-le, take-append-add, drop-append-add, drop-drop}
+use native.Mathlib.Nat.{add-assoc}
+use native.Mathlib.Numerals.{add-one}
+use lib.ListN.{length, take, drop, replicate, length-drop, replicate-append-replicate}
+use lib.Seq.{length-take-le, take-append-add, drop-append-add, drop-drop}
 use borrow.Author.Tests.{le-leb, lt-leb, lt-ltb, leb-true, ltb-true}
 use Rattle.token.specs.declared.Put.{Put}
 use Rattle.token.specs.declared.Put.the-variants as P
 use Rattle.token.specs.Bytes.{beOf, over}
+use Rattle.token.proofs.Writes.{be-length}
 use Rattle.packet.specs.Envelope.{padOf, header, packetOf, carried, sealEnd, sealAll}
 use Rattle.packet.proofs.Envelope.{both, refuted}
-
-pub be-length : (n v : ℕ) → length (beOf n v) ≡ n
-unfolding beOf
-be-length zero v = refl
-be-length (suc n) v = simp (length-append, be-length n (v / 256)) (omega arith)
-
--- a store behind what is still to be put
-over-back : (d bs : List ℕ) (at m x : ℕ) → length bs ≡ m → at + m < length d → over (set d (at + m) x) at bs ≡ over d at (bs ++ (x ∷ []))
-unfolding over
-over-back d bs at m x e h =
-    let q : at + suc m ≡ suc (at + m) = omega arith in
-    let z : length (bs ++ (x ∷ [])) ≡ suc m = simp (length-append, e) (omega arith) in
-    rw (
-      e,
-      z,
-      q,
-      take-set-le at d (at + m) x (omega arith),
-      drop-cons (set d (at + m) x) (at + m) 0 (simp length-set h),
-      getD-set-same d (at + m) x 0 h,
-      drop-set-lt (suc (at + m)) d (at + m) x (omega arith),
-    )
-    (simp append-assoc)
-
--- the digits that are still to be put, after one more store
-pub digit : (d : List ℕ) (at j w : ℕ) → 0 < j → at + j ≤ length d → over (set d (at + (j - 1)) (w % 256)) at (beOf (j - 1) (w / 256)) ≡ over d at (beOf j w)
-unfolding beOf
-digit d at zero w h k = absurd (omega arith)
-digit d at (suc m) w h k = rw (sub-one (suc m)) (over-back d (beOf m (w / 256)) at m (w % 256) (be-length m (w / 256)) (omega arith))
-
-pub digits-done : (d : List ℕ) (at j w : ℕ) → j ≡ 0 → over d at (beOf j w) ≡ d
-unfolding over beOf
-digits-done d at zero w e = rw (add-zero at, append-nil (take at d)) (take-append-drop at d)
-digits-done d at (suc j) w e = absurd (omega arith)
 
 -- zeros, and six fields over them
 pub fields : (d : List ℕ) (tsn hsn n p : ℕ) → p ≡ padOf n

@@ -82,13 +82,7 @@ fn put_number(out: &mut [u8], at: usize, k: usize, v: usize)
     requires { ⌜ at + k ≤ length (now out) ⌝ }
     ensures { λ _. ⌜ now (out .exit) ≡ over (now (out .entry)) at (beOf k v) ⌝ }
 {
-    let mut w = v;
-    let mut j = k;
-    while 0 < j {
-        j -= 1;
-        out[at + j] = (w % 256) as u8;
-        w = w / 256;
-    }
+    token::put_number(out, at, k, v as u64);
 }
 
 // The 56 bytes before a payload of n bytes: all zero but for six fields.

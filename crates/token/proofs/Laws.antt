@@ -1,5 +1,5 @@
 -- Laws on the definitions of specs/ that several proofs cite.
-use Prim.Native.Nat.{ℕ, _+_, _*_, _-_, _^_, _≤_, _<_}
+use Prim.Native.Nat.{ℕ, zero, suc, _+_, _*_, _-_, _/_, _^_, _≤_, _<_}
 use mathlib.Core.Path.{_≡_, refl}
 use mathlib.Core.List.{List, [], _∷_, _++_}
 use mathlib.Core.Bool.{Bool, true, false, _&&_}
@@ -8,10 +8,10 @@ use lib.Seq.{take-suc, getD-drop}
 use native.Mathlib.Numerals.{add-one}
 use lib.Dec.{ltb, lit<}
 use mathlib.Core.Logic.{_⊎_, inl, inr}
-use native.Mathlib.Nat.{lt-of-lt-of-le, pow-le-pow-right, pow-suc}
+use native.Mathlib.Nat.{lt-of-lt-of-le, pow-le-pow-right, pow-suc, div-lt-iff-lt-mul, div-add-mod'}
 use native.Mathlib.Omega.{arith}
 use borrow.Author.Tests.{le-leb, lt-leb, ltb-true, ltb-false}
-use Rattle.token.specs.Bytes.{within, beVal}
+use Rattle.token.specs.Bytes.{within, beVal, beOf}
 
 pub inside : (lo hi b : ℕ) → lo ≤ b → b ≤ hi → within lo hi b ≡ true
 unfolding within
@@ -42,6 +42,14 @@ pub beVal-snoc : (a : ℕ) (l : List ℕ) (b : ℕ) → beVal a (l ++ (b ∷ [])
 unfolding beVal
 beVal-snoc a [] b = refl
 beVal-snoc a (x ∷ l) b = beVal-snoc (a * 256 + x) l b
+
+-- the bytes of a number make it again
+pub be-val : (n v : ℕ) → v < 256 ^ n → beVal 0 (beOf n v) ≡ v
+unfolding beOf beVal
+be-val zero v h = omega arith
+be-val (suc n) v h =
+    rw (beVal-snoc, be-val n (v / 256) (div-lt-iff-lt-mul {k = 256} {x = v} {y = 256 ^ n} (lit< tt) .1 (rw pow-suc at h)))
+    (div-add-mod' v 256)
 
 pub beVal-more : (s : List ℕ) (at i v : ℕ) → at + i < length s → v ≡ beVal 0 (take i (drop at s)) → v * 256 + getD s (at + i) 0 ≡ beVal 0 (take (i + 1) (drop at s))
 beVal-more s at i v h e =

@@ -1,34 +1,27 @@
 -- What is written is read back: the token where an integer, bytes or a control token stands.
-use Prim.Native.Nat.{ℕ, zero, suc, _+_, _-_, _*_, _/_, _%_, _^_, _≤_, _<_}
+use Prim.Native.Nat.{ℕ, suc, _+_, _-_, _*_, _/_, _%_, _^_, _≤_, _<_}
 use mathlib.Core.Path.{_≡_, refl, sym, _∙_}
 use mathlib.Core.List.{List, _∷_, _++_, append-assoc}
 use mathlib.Core.Bool.{Bool, true, false, _&&_, _||_}
 use mathlib.Core.Logic.{⊎-elim}
 use native.Mathlib.Omega.{arith}
-use native.Mathlib.Nat.{pow-suc, div-lt-iff-lt-mul, div-add-mod', div-div-eq-div-mul}
+use native.Mathlib.Nat.{div-lt-iff-lt-mul, div-add-mod', div-div-eq-div-mul}
 use lib.ListN.{length, take, drop, length-append}
 use lib.Seq.{take-at, drop-drop, drop-append-seam}
 use lib.Dec.{leb, lit<, lit≤}
 use borrow.Author.Tests.{leb-true}
 use Rattle.token.specs.declared.Lead.the-variants as L
 use Rattle.token.specs.declared.Token.the-variants as K
-use Rattle.token.specs.Bytes.{within, beVal, beOf}
+use Rattle.token.specs.Bytes.{within, beOf}
 use Rattle.token.specs.Token.{isControl, leadOf, atomOf, mediumOf, longOf, formOf, tokenOf}
 use Rattle.token.specs.Write.{sizeOf, encInt, headOf, encBytes}
-use Rattle.token.proofs.Laws.{lt-or-le, beVal-snoc}
+use Rattle.token.proofs.Laws.{lt-or-le, be-val}
 use Rattle.token.proofs.Leads.{tiny, short-int, short-bytes, medium-bytes, long-bytes, control-low, control-high}
 use Rattle.token.proofs.Tokens.{atom-int, atom-bytes}
 use Rattle.token.proofs.Writes.{be-length}
 use Rattle.token.proofs.Forms.{enc-tiny, enc-short, sized, head-one, head-two, head-four}
 
 -- ---- numbers
-be-val : (n v : ℕ) → v < 256 ^ n → beVal 0 (beOf n v) ≡ v
-unfolding beOf beVal
-be-val zero v h = omega arith
-be-val (suc n) v h =
-    rw (beVal-snoc, be-val n (v / 256) (div-lt-iff-lt-mul {k = 256} {x = v} {y = 256 ^ n} (lit< tt) .1 (rw pow-suc at h)))
-    (div-add-mod' v 256)
-
 long-size : (n : ℕ) → n / 65536 * 65536 + n / 256 % 256 * 256 + n % 256 ≡ n
 long-size n =
     let a = div-add-mod' n 256 in
