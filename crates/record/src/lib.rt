@@ -114,7 +114,7 @@ fn session_ok(t: Tables, s: Session) -> bool
     false
 }
 
-// A PIN of 0 to 32 bytes, and zeros after them.
+// A PIN of 0 to 32 bytes, and zeros after them. The loop has no second way out, so that the machine takes many bytes in a step.
 fn secret_ok(x: Secret) -> bool
     ensures { λ r. ⌜ r ≡ secretOk x ⌝ }
 {
@@ -123,13 +123,12 @@ fn secret_ok(x: Secret) -> bool
     if PIN_BYTES < i {
         return false;
     }
+    let mut rest: u8 = 0;
     while i < PIN_BYTES {
-        if bytes[i] != 0 {
-            return false;
-        }
+        rest = rest | bytes[i];
         i += 1;
     }
-    true
+    rest == 0
 }
 
 fn secrets_ok(l: [Secret; PINS]) -> bool
