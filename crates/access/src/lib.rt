@@ -10,12 +10,11 @@ use ranges::ROWS;
 ghost use mathlib.Core.Path.{_≡_};
 ghost use Prim.Native.Nat.{_≤_, _<_, _+_, _-_};
 ghost use mathlib.Core.Bool.{true, false, cond};
-ghost use lib.ListN.{getD};
 ghost use Rattle.token.specs.Bytes.{within};
 ghost use Rattle.model.specs.Record.{adminCount, provedAt};
 ghost use Rattle.model.specs.Uids.{methodOf, nth, objectIn, whoIn, uidOf};
-ghost use Rattle.model.specs.Access.{accessRows, kindOf, selfOf, anyProved, holds, hasColumn, someRow, inTable, allowed, allowedColumn, lastColumn};
-ghost use Rattle.access.specs.Rows.{rowPast, noAccess, answersTo};
+ghost use Rattle.model.specs.Access.{accessRows, kindOf, selfOf, anyProved, holds, hasColumn, lastColumn};
+ghost use Rattle.access.specs.Rows.{rowPast, withRow, TableSays};
 
 // ---- what a UID names
 
@@ -468,12 +467,11 @@ const TABLE: [Access; COUNT] = [
     },
 ];
 
-// Row i of the table.
-fn row_at(i: usize) -> Access
-    requires { ⌜ i < 29 ⌝ }
-    ensures { λ r. ⌜ r ≡ getD accessRows i noAccess ⌝ }
+// The table. A search takes it once: a constant that is named in a loop is made anew at each turn.
+fn table() -> [Access; COUNT]
+    ensures { λ r. ⌜ r ≡ accessRows ⌝ }
 {
-    TABLE[i]
+    TABLE
 }
 
 // An object's kind in the table.
@@ -567,80 +565,62 @@ fn class_holds(s: Session, row: usize, who: u8) -> bool
 }
 
 // Whether the set has column c.
-fn has_column(columns: u32, c: u8) -> bool
+pub fn has_column(columns: u32, c: u8) -> bool
     ensures { λ r. ⌜ r ≡ hasColumn columns c ⌝ }
 {
-    let mut rest = columns;
-    let mut i: u8 = 0;
-    while i < c {
-        rest = rest / 2;
-        i += 1;
-    }
-    rest % 2 == 1
-}
-
-// What is asked of the rows for an object and a method: that there is one, one that holds for the session, or one that has the column too.
-enum Asked {
-    Row,
-    Holder,
-    Column(u8),
-}
-
-// Whether a row answers; own is the object's row.
-fn answers(s: Session, kind: u8, own: usize, m: u32, asked: Asked, a: Access) -> bool
-    ensures { λ r. ⌜ r ≡ answersTo s kind own m asked a ⌝ }
-{
-    if a.kind != kind {
-        return false;
-    }
-    if a.method != m {
-        return false;
-    }
-    match asked {
-        Asked::Row => true,
-        Asked::Holder => class_holds(s, own, a.who),
-        Asked::Column(c) => {
-            if class_holds(s, own, a.who) {
-                return has_column(a.columns, c);
-            }
-            false
-        }
-    }
-}
-
-// Whether a row of the table answers.
-fn some_row(s: Session, o: Object, m: u32, asked: Asked) -> bool
-    ensures { λ r. ⌜ r ≡ someRow (answersTo s (kindOf (s .locking) o) (selfOf o) m asked) accessRows ⌝ }
-{
-    let kind = kind_of(s.locking, o);
-    let own = self_of(o);
-    let mut i: usize = 0;
-    while i < COUNT {
-        if answers(s, kind, own, m, asked, row_at(i)) {
-            return true;
-        }
-        i += 1;
+    if c < 32 {
+        return (columns >> c) % 2 == 1;
     }
     false
 }
 
-// Whether the pair of object and method is in the table.
-pub fn in_table(s: Session, o: Object, m: u32) -> bool
-    ensures { λ r. ⌜ r ≡ inTable s o m ⌝ }
-{
-    some_row(s, o, m, Asked::Row)
+// What the rows for an object and a method say: that there is one, that one holds for the session, and the columns of those that hold.
+pub struct Found {
+    pub listed: bool,
+    pub held: bool,
+    pub columns: u32,
 }
 
-// Whether a row of it holds for the session.
-pub fn allowed(s: Session, o: Object, m: u32) -> bool
-    ensures { λ r. ⌜ r ≡ allowed s o m ⌝ }
+// What a row adds to what the others say; own is the object's row.
+fn with_row(s: Session, kind: u8, own: usize, m: u32, a: Access, f: Found) -> Found
+    ensures { λ r. ⌜ r ≡ withRow s kind own m a f ⌝ }
 {
-    some_row(s, o, m, Asked::Holder)
+    if a.kind != kind {
+        return f;
+    }
+    if a.method != m {
+        return f;
+    }
+    if class_holds(s, own, a.who) {
+        return Found {
+            listed: true,
+            held: true,
+            columns: a.columns | f.columns,
+        };
+    }
+    Found {
+        listed: true,
+        held: f.held,
+        columns: f.columns,
+    }
 }
 
-// Whether a row of it holds for the session and has the column.
-pub fn allowed_column(s: Session, o: Object, m: u32, c: u8) -> bool
-    ensures { λ r. ⌜ r ≡ allowedColumn s o m c ⌝ }
+// What the table says of an object and a method, in one search.
+pub fn look_up(s: Session, o: Object, m: u32) -> Found
+    ensures { λ r. ⌜ TableSays s o m r ⌝ }
 {
-    some_row(s, o, m, Asked::Column(c))
+    let kind = kind_of(s.locking, o);
+    let own = self_of(o);
+    let rows = table();
+    let mut found = Found {
+        listed: false,
+        held: false,
+        columns: 0,
+    };
+    let mut i = COUNT;
+    while 0 < i {
+        i -= 1;
+        found = with_row(s, kind, own, m, rows[i], found);
+    }
+    found
 }

@@ -12,7 +12,7 @@ use Rattle.tape.specs.Write.{encValue, encValues}
 use Rattle.model.specs.declared.Cells.{Cells}
 use Rattle.model.specs.declared.Object.{Object}
 use Rattle.model.specs.Uids.{getMethod}
-use Rattle.model.specs.Access.{allowedColumn}
+use Rattle.model.specs.Access.{hasColumn, allowedColumn}
 use Rattle.model.specs.Answer.{cell, told}
 use Rattle.answer.specs.Pieces.{Wrote, column}
 
@@ -25,14 +25,11 @@ unfolding encValues
 listed true v l = refl
 listed false v l = refl
 
-told-more : (c : Cells) (o : Object) (n k : ℕ) → encValues (told c o (suc n) k) ≡ column c o k ++ encValues (told c o n (k + 1))
+rest-more : (set : ℕ) (c : Cells) (o : Object) (end k : ℕ) → hasColumn set k ≡ allowedColumn (c .session) o getMethod k → k < end → rest c o end k ≡ column set c o k ++ rest c o end (k + 1)
 unfolding told
-told-more c o n k = listed (allowedColumn (c .session) o getMethod k) (named (int k) (cell c o k)) (told c o n (k + 1))
-
-rest-more : (c : Cells) (o : Object) (end k : ℕ) → k < end → rest c o end k ≡ column c o k ++ rest c o end (k + 1)
-rest-more c o end k h =
+rest-more set c o end k a h =
     let e : end - k ≡ suc (end - (k + 1)) = omega arith in
-    ap (λ (n : ℕ). encValues (told c o n k)) e ∙ told-more c o (end - (k + 1)) k
+    rw (e, a) (listed (allowedColumn (c .session) o getMethod k) (named (int k) (cell c o k)) (told c o (end - (k + 1)) (k + 1)))
 
 rest-none : (c : Cells) (o : Object) (end k : ℕ) → end ≤ k → (0xf1 ∷ []) ≡ rest c o end k
 unfolding told encValues
@@ -45,11 +42,11 @@ abbrev pub Still : Cells → Object → ℕ → ℕ → List ℕ → ℕ → ℕ
 Still c o end first d at k y p = (p + length (rest c o end k) ≡ at + length (rest c o end first)) × (over y p (rest c o end k) ≡ over d at (rest c o end first))
 
 module _ (c : Cells) (o : Object) (end first : ℕ) (d : List ℕ) (at k : ℕ) (y : List ℕ) (p : ℕ) (still : Still c o end first d at k y p) where
-  pub still-more : (n r : ℕ) (z : List ℕ) → Wrote n y p (column c o k) r z → k < end → p + n ≤ length y → Still c o end first d at (k + 1) z r
-  still-more n r z w h f =
-      let e = rest-more c o end k h in
-      let q = over-over y (column c o k) p (omega arith) (rest c o end (k + 1)) in
-      (omega (arith, still .0, ap length e, length-append (column c o k) (rest c o end (k + 1))), rw (w .buffer, w .place) (q ∙ rw (← e) (still .1)))
+  pub still-more : (set n r : ℕ) (z : List ℕ) → hasColumn set k ≡ allowedColumn (c .session) o getMethod k → Wrote n y p (column set c o k) r z → k < end → p + n ≤ length y → Still c o end first d at (k + 1) z r
+  still-more set n r z a w h f =
+      let e = rest-more set c o end k a h in
+      let q = over-over y (column set c o k) p (omega arith) (rest c o end (k + 1)) in
+      (omega (arith, still .0, ap length e, length-append (column set c o k) (rest c o end (k + 1))), rw (w .buffer, w .place) (q ∙ rw (← e) (still .1)))
 
   pub still-last : (n r : ℕ) (z : List ℕ) → Wrote 1 y p (0xf1 ∷ []) r z → end ≤ k → length (rest c o end first) ≤ n → Wrote n d at (rest c o end first) r z
   still-last n r z w h l =

@@ -19,8 +19,8 @@ use Rattle.model.specs.declared.Object.{Object}
 use Rattle.model.specs.declared.Decision.{Decision}
 use Rattle.model.specs.declared.Status.{Status}
 use Rattle.model.specs.declared.Status.the-variants as E
-use Rattle.model.specs.Uids.{uidOf, managerUid, getMethod}
-use Rattle.model.specs.Access.{allowedColumn}
+use Rattle.model.specs.Uids.{uidOf, managerUid}
+use Rattle.model.specs.Access.{hasColumn}
 use Rattle.model.specs.Answer.{statusNumber, number, flag, uid, one, two, resets, result, managerCall, pinCell, rangeCell, mbrCell, cellPast0, cell, answer}
 use Rattle.answer.specs.Pieces.{ending, calling, column}
 
@@ -78,12 +78,12 @@ pub later-cell : (c : Cells) (o p : Object) (k : ℕ) (bs : List ℕ) → (k ≡
 later-cell c o p k bs h e f = rw (ne-eqb k 0 h, e) f
 
 -- a column that may be told, and one that may not
-pub told-column : (c : Cells) (o : Object) (k : ℕ) → allowedColumn (c .session) o getMethod k ≡ true → (0xf2 ∷ encInt k) ++ encValue (cell c o k) ++ (0xf3 ∷ []) ≡ column c o k
+pub told-column : (set : ℕ) (c : Cells) (o : Object) (k : ℕ) → hasColumn set k ≡ true → (0xf2 ∷ encInt k) ++ encValue (cell c o k) ++ (0xf3 ∷ []) ≡ column set c o k
 unfolding encValue encAtom
-told-column c o k e = rw e (append-assoc (0xf2 ∷ encInt k) (encValue (cell c o k)) (0xf3 ∷ []))
+told-column set c o k e = rw e (append-assoc (0xf2 ∷ encInt k) (encValue (cell c o k)) (0xf3 ∷ []))
 
-pub hidden-column : (c : Cells) (o : Object) (k : ℕ) → allowedColumn (c .session) o getMethod k ≡ false → [] ≡ column c o k
-hidden-column c o k e = rw e
+pub hidden-column : (set : ℕ) (c : Cells) (o : Object) (k : ℕ) → hasColumn set k ≡ false → [] ≡ column set c o k
+hidden-column set c o k e = rw e
 
 -- ---- answers
 -- "F0 status 00 00 F1": each status is a tiny integer

@@ -12,8 +12,8 @@ use Rattle.value.specs.Plain.{int, list, named}
 use Rattle.model.specs.declared.Cells.{Cells}
 use Rattle.model.specs.declared.Object.{Object}
 use Rattle.model.specs.declared.Status.{Status}
-use Rattle.model.specs.Uids.{managerUid, getMethod}
-use Rattle.model.specs.Access.{allowedColumn}
+use Rattle.model.specs.Uids.{managerUid}
+use Rattle.model.specs.Access.{hasColumn}
 use Rattle.model.specs.Answer.{statusNumber, uid, cell, told}
 
 -- bs was put into d at at, n bytes at the most: r is the place behind it, and y the buffer that is left
@@ -36,9 +36,9 @@ ending k = 0xf1 ∷ 0xf9 ∷ 0xf0 ∷ statusNumber k ∷ 0 ∷ 0 ∷ 0xf1 ∷ []
 abbrev pub calling : ℕ → List ℕ
 calling m = 0xf8 ∷ (encAtom (uid managerUid) ++ (encAtom (uid m) ++ (0xf0 ∷ [])))
 
--- a column with its name, where it is allowed
-abbrev pub column : Cells → Object → ℕ → List ℕ
-column c o k = cond (allowedColumn (c .session) o getMethod k) (encValue (named (int k) (cell c o k))) []
+-- a column with its name, where the set has it
+abbrev pub column : ℕ → Cells → Object → ℕ → List ℕ
+column set c o k = cond (hasColumn set k) (encValue (named (int k) (cell c o k))) []
 
 -- a Get's inner list
 abbrev pub columns : Cells → Object → ℕ → ℕ → List ℕ

@@ -230,13 +230,12 @@ fn put_cell(out: &mut [u8], at: usize, c: Cells, o: Object, k: u8) -> usize
     }
 }
 
-// A column with its name, where it is allowed.
-fn put_column(out: &mut [u8], at: usize, c: Cells, o: Object, k: u8) -> usize
+// A column with its name, where the set has it.
+fn put_column(out: &mut [u8], at: usize, set: u32, c: Cells, o: Object, k: u8) -> usize
     requires { ⌜ at + 45 ≤ length (now out) ⌝ }
-    ensures { λ r. ⌜ Wrote 45 (now (out .entry)) at (column c o k) r (now (out .exit)) ⌝ }
+    ensures { λ r. ⌜ Wrote 45 (now (out .entry)) at (column set c o k) r (now (out .exit)) ⌝ }
 {
-    let session = c.session;
-    if access::allowed_column(session, o, GET, k) {
+    if access::has_column(set, k) {
         let a = put_byte(out, at, 0xf2);
         let b = put_int(out, a, k as u64);
         let d = put_cell(out, b, c, o, k);
@@ -250,11 +249,13 @@ fn put_columns(out: &mut [u8], at: usize, c: Cells, o: Object, first: u8, last: 
     requires { ⌜ at + 1000 ≤ length (now out) ⌝ }
     ensures { λ r. ⌜ Wrote 902 (now (out .entry)) at (columns c o first last) r (now (out .exit)) ⌝ }
 {
+    let session = c.session;
+    let allowed = access::look_up(session, o, GET);
     let end = last as usize + 1;
     let mut p = put_byte(out, at, 0xf0);
     let mut k = first as usize;
     while k < end {
-        p = put_column(out, p, c, o, k as u8);
+        p = put_column(out, p, allowed.columns, c, o, k as u8);
         k += 1;
     }
     put_byte(out, p, 0xf1)

@@ -1,5 +1,5 @@
 -- The laws that the proofs of `judge` cite.
 pub mod Turns
-pub mod Given
+pub mod Known
 pub mod Blocks
 pub mod Starts

@@ -1,5 +1,6 @@
 // What is decided of a request, in document 01's order of checks. No PIN is seen here: where one must be compared, that is said, with what
 // follows either way.
+use access::Found;
 use item::Slot;
 use model::Cells;
 use model::Change;
@@ -8,7 +9,6 @@ use model::Judged;
 use model::Object;
 use model::PIN_BYTES;
 use model::PINS;
-use model::Session;
 use model::Status;
 use model::TRY_LIMIT;
 use model::Tables;
@@ -28,11 +28,12 @@ ghost use mathlib.Core.List.{List};
 ghost use lib.Dec.{leb, ltb};
 ghost use Rattle.ranges.specs.Decides.{imp};
 ghost use Rattle.value.specs.Read.{valuesAt};
-ghost use Rattle.params.specs.Columns.{columnCount, columnAt, free, good};
+ghost use Rattle.params.specs.Columns.{columnCount, free, good};
 ghost use Rattle.model.specs.declared.Decision.the-variants as D;
 ghost use Rattle.model.specs.declared.Judged.the-variants.{Settled};
 ghost use Rattle.model.specs.Uids.{setMethod};
-ghost use Rattle.model.specs.Access.{allowedColumn, lastColumn};
+ghost use Rattle.model.specs.Access.{hasColumn, lastColumn};
+ghost use Rattle.access.specs.Rows.{TableSays};
 ghost use Rattle.model.specs.Record.{tryLimit, pinBytes, triesAt, enabledAt};
 ghost use Rattle.model.specs.Judge.{placeOf, countOf, judgeWho, known, signer, judgeStart, judgeManager, judgeProof, boundOf, judgeGet, atGiven, judgeSet, judgeBare, revertOf, activateOn, judgeMethod};
 ghost use Rattle.model.specs.Step.{judgeSession};
@@ -390,62 +391,35 @@ fn judge_get(o: Object, b: Block) -> Judged
     Judged::Settled(told)
 }
 
-fn is_given(t: Columns, k: usize) -> bool
+// The known columns of an object as a set.
+fn known_columns(o: Object) -> u32
+    ensures { λ r. ⌜ ((k : ℕ) → hasColumn r k ≡ leb k (lastColumn o)) ⌝ }
+{
+    let last = access::last_column(o);
+    (1u32 << (last + 1)) - 1
+}
+
+// Where the column is given, the set has it.
+fn column_in(set: u32, k: usize, x: Slot) -> bool
     requires { ⌜ k < columnCount ⌝ }
-    ensures { λ r. ⌜ r ≡ not (free (columnAt t k)) ⌝ }
+    ensures { λ r. ⌜ r ≡ imp (not (free x)) (hasColumn set k) ⌝ }
+{
+    if left_out(x) {
+        return true;
+    }
+    access::has_column(set, k as u8)
+}
+
+// The set has every column that is given.
+fn given_in(set: u32, t: Columns) -> bool
+    ensures { λ r. ⌜ r ≡ atGiven (hasColumn set) t ⌝ }
 {
     let rows = t.rows;
-    let row = rows[k];
-    let x = row.given;
-    if left_out(x) {
-        return false;
-    }
-    true
-}
-
-// Where the column is given, it is known.
-fn known_at(o: Object, t: Columns, k: usize) -> bool
-    requires { ⌜ k < columnCount ⌝ }
-    ensures { λ r. ⌜ r ≡ imp (not (free (columnAt t k))) (leb k (lastColumn o)) ⌝ }
-{
-    if is_given(t, k) {
-        return k <= access::last_column(o) as usize;
-    }
-    true
-}
-
-// No "unknown column".
-fn columns_known(o: Object, t: Columns) -> bool
-    ensures { λ r. ⌜ r ≡ atGiven (λ k. leb k (lastColumn o)) t ⌝ }
-{
     let mut k: usize = 0;
     while k < COLUMNS {
-        if known_at(o, t, k) {} else {
-            return false;
-        }
-        k += 1;
-    }
-    true
-}
-
-// Where the column is given, the session may set it.
-fn allowed_at(session: Session, o: Object, t: Columns, k: usize) -> bool
-    requires { ⌜ k < columnCount ⌝ }
-    ensures { λ r. ⌜ r ≡ imp (not (free (columnAt t k))) (allowedColumn session o setMethod k) ⌝ }
-{
-    if is_given(t, k) {
-        return access::allowed_column(session, o, SET, k as u8);
-    }
-    true
-}
-
-// No column "not allowed".
-fn columns_allowed(session: Session, o: Object, t: Columns) -> bool
-    ensures { λ r. ⌜ r ≡ atGiven (allowedColumn session o setMethod) t ⌝ }
-{
-    let mut k: usize = 0;
-    while k < COLUMNS {
-        if allowed_at(session, o, t, k) {} else {
+        let row = rows[k];
+        let x = row.given;
+        if column_in(set, k, x) {} else {
             return false;
         }
         k += 1;
@@ -466,18 +440,19 @@ fn is_good(h: Shape) -> bool
 }
 
 // Set: "shape, repeated or unknown column (0C); columns not allowed (01); values, their types too (0C)".
-fn judge_set(c: Cells, s: &[u8], o: Object, t: Columns) -> Judged
+fn judge_set(c: Cells, s: &[u8], o: Object, t: Columns, found: Found) -> Judged
+    requires { ⌜ TableSays (c .session) o setMethod found ⌝ }
     ensures { λ r. ⌜ r ≡ judgeSet c (now (s .entry)) o t ⌝ }
 {
     let shape = t.shape;
     if is_good(shape) {} else {
         return refuse(Status::InvalidParameter);
     }
-    if columns_known(o, t) {} else {
-        return refuse(Status::InvalidParameter);
+    let known = known_columns(o);
+    if given_in(known, t) {} else {
+        return refuse(Status::InvalidParameter); // unknown column
     }
-    let session = c.session;
-    if columns_allowed(session, o, t) {} else {
+    if given_in(found.columns, t) {} else {
         return refuse(Status::NotAuthorized); // columns not allowed
     }
     if edits::values_ok(c, s, t, o) {
@@ -499,11 +474,11 @@ fn is_idle(c: Cells) -> bool
 }
 
 // Activate, Revert, RevertSP: no parameters, allowed, "then FAIL in a transaction".
-fn judge_bare(c: Cells, o: Object, m: u32, bare: bool, x: Change) -> Judged
+fn judge_bare(c: Cells, o: Object, m: u32, found: Found, bare: bool, x: Change) -> Judged
+    requires { ⌜ TableSays (c .session) o m found ⌝ }
     ensures { λ r. ⌜ r ≡ judgeBare c o m bare x ⌝ }
 {
-    let session = c.session;
-    let allowed = access::allowed(session, o, m);
+    let allowed = found.held;
     let idle = is_idle(c);
     if bare {} else {
         return refuse(Status::InvalidParameter);
@@ -551,7 +526,8 @@ fn judge_method(c: Cells, s: &[u8], o: Object, m: u32, at: usize) -> Judged
     ensures { λ r. ⌜ r ≡ judgeMethod c (now (s .entry)) o m (valuesAt (now (s .entry)) 15 at) ⌝ }
 {
     let session = c.session;
-    if access::in_table(session, o, m) {} else {
+    let found = access::look_up(session, o, m);
+    if found.listed {} else {
         return refuse(Status::NotAuthorized); // no row
     }
     if m == GET {
@@ -560,7 +536,7 @@ fn judge_method(c: Cells, s: &[u8], o: Object, m: u32, at: usize) -> Judged
     }
     if m == SET {
         let t = params::set(s, at);
-        return judge_set(c, s, o, t);
+        return judge_set(c, s, o, t, found);
     }
     if m == AUTHENTICATE {
         let p = params::authenticate(s, at);
@@ -569,13 +545,13 @@ fn judge_method(c: Cells, s: &[u8], o: Object, m: u32, at: usize) -> Judged
     let bare = params::none(s, at);
     if m == ACTIVATE {
         let x = activate_on(c.tables);
-        return judge_bare(c, o, m, bare, x);
+        return judge_bare(c, o, m, found, bare, x);
     }
     if m == REVERT {
         let x = revert_of(o);
-        return judge_bare(c, o, m, bare, x);
+        return judge_bare(c, o, m, found, bare, x);
     }
-    judge_bare(c, o, m, bare, Change::RevertSp)
+    judge_bare(c, o, m, found, bare, Change::RevertSp)
 }
 
 // "FC is answered FC 00, or FC 01 if none is open".

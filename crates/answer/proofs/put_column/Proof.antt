@@ -7,8 +7,8 @@ use Rattle.answer.proofs.Spelled.{told-column, hidden-column}
 use Rattle.answer.proofs.put_column.Statement.{statement}
 use Rattle.answer.proofs.put_column.Tie as tie
 
-allowed-column-requires : tie.Need-allowed-column-requires
-allowed-column-requires c κs = search needs
+has-column-requires : tie.Need-has-column-requires
+has-column-requires c κs = search needs
 
 put-byte-requires : tie.Need-put-byte-requires
 put-byte-requires c κs = search needs
@@ -34,16 +34,18 @@ returns c =
     let name = behind (c1 .put-byte .ensures) (c2 .put-int .ensures) (omega arith) in
     let value = behind name (c3 .put-cell .ensures) (omega arith) in
     let test = c1 .before .before in
-    said (behind value (c4 .put-byte2 .ensures) (omega arith)) (told-column _ _ _ (sym (test .before .allowed-column .ensures) ∙ test .if1 .taken)) (omega arith)
+    said (behind value (c4 .put-byte2 .ensures) (omega arith)) (told-column _ _ _ _ (sym (test .before .has-column .ensures) ∙ test .if1 .taken)) (omega arith)
 
 returns-2 : tie.Need-returns-2
-returns-2 c = said (nothing 45 _ _) (hidden-column _ _ _ (sym (c .before .allowed-column .ensures) ∙ c .if1 .left)) (omega arith)
+returns-2 c =
+    let a = c .before .before .before .args in
+    said (nothing 45 _ _) (hidden-column (a .set) (a .c) (a .o) (a .k) (sym (c .before .has-column .ensures) ∙ c .if1 .left)) (omega arith)
 
 pub put-column-spec : {M : Type 1} → statement M
 put-column-spec =
     tie.close
     (tie.spec
-    allowed-column-requires
+    has-column-requires
     put-byte-requires
     put-int-requires
     put-cell-requires

@@ -12,19 +12,22 @@ use Rattle.answer.proofs.put_columns.Statement.{statement}
 use Rattle.answer.proofs.put_columns.Tie as tie
 
 abbrev Inv-loop : tie.InvT-loop
-Inv-loop out₀ at c o first last end p₀ k₀ out p k = Still c o end first out₀ p₀ k out p × (length out ≡ length out₀)
+Inv-loop out₀ at c o first last allowed end p₀ k₀ out p k = Still c o end first out₀ p₀ k out p × (length out ≡ length out₀)
 
 abbrev μ-loop : tie.MeasureT-loop
-μ-loop out₀ at c o first last end p₀ k₀ out p k = end - k
+μ-loop out₀ at c o first last allowed end p₀ k₀ out p k = end - k
 
 -- however many columns are asked for, their list is short
 short : (c : tie.At-loop Inv-loop μ-loop) →
-    let a = c .before .before .before .before .before .before .args in
+    let a = c .before .before .before .before .before .before .before .before .args in
     length (rest (a .c) (a .o) (a .last + 1) (a .first)) ≤ 901
 short c =
-    let a = c .before .before .before .before .before .before .args in
+    let a = c .before .before .before .before .before .before .before .before .args in
     let many : length (a .c .msid) ≡ 32 = search needs in
     omega (arith, told-short (a .c) (a .o) (a .last + 1 - a .first) (a .first) many)
+
+look-up-requires : tie.Need-look-up-requires Inv-loop μ-loop
+look-up-requires c κs = search needs
 
 add-end : tie.Need-add-end Inv-loop μ-loop
 add-end c = search needs
@@ -50,7 +53,8 @@ loop-less c = search needs
 loop-again : tie.Need-loop-again Inv-loop μ-loop
 loop-again c =
     let here = c .before .before .before .before .before in
-    (still-more _ _ _ _ _ _ _ _ _ (here .loop .inv .0) 45 _ _ (c .before .before .put-column .ensures) (omega arith) (omega (arith, short here)), search needs)
+    let told = here .before .before .before .before .before .look-up .ensures .columns (here .loop .k) in
+    (still-more _ _ _ _ _ _ _ _ _ (here .loop .inv .0) _ 45 _ _ told (c .before .before .put-column .ensures) (omega arith) (omega (arith, short here)), search needs)
 
 put-byte-requires-2 : tie.Need-put-byte-requires-2 Inv-loop μ-loop
 put-byte-requires-2 c κs = omega (arith, short (c .before .before))
@@ -71,6 +75,7 @@ put-columns-spec =
     (tie.spec
     Inv-loop
     μ-loop
+    look-up-requires
     add-end
     put-byte-requires
     loop-holds

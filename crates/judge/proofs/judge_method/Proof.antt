@@ -7,15 +7,15 @@ use Rattle.model.specs.Judge.{need, judgeMethod}
 use Rattle.judge.proofs.judge_method.Statement.{statement}
 use Rattle.judge.proofs.judge_method.Tie as tie
 
-in-table-requires : tie.Need-in-table-requires
-in-table-requires c κs = search needs
+look-up-requires : tie.Need-look-up-requires
+look-up-requires c κs = search needs
 
 refuse-requires : tie.Need-refuse-requires
 refuse-requires c κs = search needs
 
 returns : tie.Need-returns
 unfolding need judgeMethod
-returns c = simp (c .refuse .ensures, sym (c .before .before .in-table .ensures) ∙ c .before .if1 .left)
+returns c = simp (c .refuse .ensures, sym (c .before .before .look-up .ensures .listed) ∙ c .before .if1 .left)
 
 get-requires : tie.Need-get-requires
 get-requires c κs = search needs
@@ -25,17 +25,17 @@ judge-get-requires c κs = search needs
 
 returns-2 : tie.Need-returns-2
 unfolding need judgeMethod
-returns-2 c = simp (c .judge-get .ensures, c .before .get .ensures, eq-eqb _ _ (c .before .before .if2 .taken), sym (c .before .before .before .before .in-table .ensures) ∙ c .before .before .before .if1 .taken)
+returns-2 c = simp (c .judge-get .ensures, c .before .get .ensures, eq-eqb _ _ (c .before .before .if2 .taken), sym (c .before .before .before .before .look-up .ensures .listed) ∙ c .before .before .before .if1 .taken)
 
 set-requires : tie.Need-set-requires
 set-requires c κs = search needs
 
 judge-set-requires : tie.Need-judge-set-requires
-judge-set-requires c κs = search needs
+judge-set-requires c κs = rw (c .before .if3 .taken) at (c .before .before .before .before .look-up .ensures)
 
 returns-3 : tie.Need-returns-3
 unfolding need judgeMethod
-returns-3 c = simp (c .judge-set .ensures, c .before .set .ensures, eq-eqb _ _ (c .before .before .if3 .taken), ne-eqb _ _ (c .before .before .before .if2 .left), sym (c .before .before .before .before .before .in-table .ensures) ∙ c .before .before .before .before .if1 .taken)
+returns-3 c = simp (c .judge-set .ensures, c .before .set .ensures, eq-eqb _ _ (c .before .before .if3 .taken), ne-eqb _ _ (c .before .before .before .if2 .left), sym (c .before .before .before .before .before .look-up .ensures .listed) ∙ c .before .before .before .before .if1 .taken)
 
 authenticate-requires : tie.Need-authenticate-requires
 authenticate-requires c κs = search needs
@@ -45,7 +45,7 @@ judge-proof-requires c κs = search needs
 
 returns-4 : tie.Need-returns-4
 unfolding need judgeMethod
-returns-4 c = simp (c .judge-proof .ensures (now (c .before .before .before .before .before .before .before .before .before .args .s)), c .before .authenticate .ensures, eq-eqb _ _ (c .before .before .if4 .taken), ne-eqb _ _ (c .before .before .before .if3 .left), ne-eqb _ _ (c .before .before .before .before .if2 .left), sym (c .before .before .before .before .before .before .in-table .ensures) ∙ c .before .before .before .before .before .if1 .taken)
+returns-4 c = simp (c .judge-proof .ensures (now (c .before .before .before .before .before .before .before .before .before .args .s)), c .before .authenticate .ensures, eq-eqb _ _ (c .before .before .if4 .taken), ne-eqb _ _ (c .before .before .before .if3 .left), ne-eqb _ _ (c .before .before .before .before .if2 .left), sym (c .before .before .before .before .before .before .look-up .ensures .listed) ∙ c .before .before .before .before .before .if1 .taken)
 
 none-requires : tie.Need-none-requires
 none-requires c κs = search needs
@@ -58,7 +58,7 @@ judge-bare-requires c κs = search needs
 
 returns-5 : tie.Need-returns-5
 unfolding need judgeMethod
-returns-5 c = simp (c .judge-bare .ensures, c .before .activate-on .ensures, eq-eqb _ _ (c .before .before .if5 .taken), c .before .before .before .none .ensures, ne-eqb _ _ (c .before .before .before .before .if4 .left), ne-eqb _ _ (c .before .before .before .before .before .if3 .left), ne-eqb _ _ (c .before .before .before .before .before .before .if2 .left), sym (c .before .before .before .before .before .before .before .before .in-table .ensures) ∙ c .before .before .before .before .before .before .before .if1 .taken)
+returns-5 c = simp (c .judge-bare .ensures, c .before .activate-on .ensures, eq-eqb _ _ (c .before .before .if5 .taken), c .before .before .before .none .ensures, ne-eqb _ _ (c .before .before .before .before .if4 .left), ne-eqb _ _ (c .before .before .before .before .before .if3 .left), ne-eqb _ _ (c .before .before .before .before .before .before .if2 .left), sym (c .before .before .before .before .before .before .before .before .look-up .ensures .listed) ∙ c .before .before .before .before .before .before .before .if1 .taken)
 
 revert-of-requires : tie.Need-revert-of-requires
 revert-of-requires c κs = search needs
@@ -68,20 +68,20 @@ judge-bare-requires-2 c κs = search needs
 
 returns-6 : tie.Need-returns-6
 unfolding need judgeMethod
-returns-6 c = simp (c .judge-bare2 .ensures, c .before .revert-of .ensures, eq-eqb _ _ (c .before .before .if6 .taken), ne-eqb _ _ (c .before .before .before .if5 .left), c .before .before .before .before .none .ensures, ne-eqb _ _ (c .before .before .before .before .before .if4 .left), ne-eqb _ _ (c .before .before .before .before .before .before .if3 .left), ne-eqb _ _ (c .before .before .before .before .before .before .before .if2 .left), sym (c .before .before .before .before .before .before .before .before .before .in-table .ensures) ∙ c .before .before .before .before .before .before .before .before .if1 .taken)
+returns-6 c = simp (c .judge-bare2 .ensures, c .before .revert-of .ensures, eq-eqb _ _ (c .before .before .if6 .taken), ne-eqb _ _ (c .before .before .before .if5 .left), c .before .before .before .before .none .ensures, ne-eqb _ _ (c .before .before .before .before .before .if4 .left), ne-eqb _ _ (c .before .before .before .before .before .before .if3 .left), ne-eqb _ _ (c .before .before .before .before .before .before .before .if2 .left), sym (c .before .before .before .before .before .before .before .before .before .look-up .ensures .listed) ∙ c .before .before .before .before .before .before .before .before .if1 .taken)
 
 judge-bare-requires-3 : tie.Need-judge-bare-requires-3
 judge-bare-requires-3 c κs = search needs
 
 returns-7 : tie.Need-returns-7
 unfolding need judgeMethod
-returns-7 c = simp (c .judge-bare3 .ensures, ne-eqb _ _ (c .before .if6 .left), ne-eqb _ _ (c .before .before .if5 .left), c .before .before .before .none .ensures, ne-eqb _ _ (c .before .before .before .before .if4 .left), ne-eqb _ _ (c .before .before .before .before .before .if3 .left), ne-eqb _ _ (c .before .before .before .before .before .before .if2 .left), sym (c .before .before .before .before .before .before .before .before .in-table .ensures) ∙ c .before .before .before .before .before .before .before .if1 .taken)
+returns-7 c = simp (c .judge-bare3 .ensures, ne-eqb _ _ (c .before .if6 .left), ne-eqb _ _ (c .before .before .if5 .left), c .before .before .before .none .ensures, ne-eqb _ _ (c .before .before .before .before .if4 .left), ne-eqb _ _ (c .before .before .before .before .before .if3 .left), ne-eqb _ _ (c .before .before .before .before .before .before .if2 .left), sym (c .before .before .before .before .before .before .before .before .look-up .ensures .listed) ∙ c .before .before .before .before .before .before .before .if1 .taken)
 
 pub judge-method-spec : {M : Type 1} → statement M
 judge-method-spec =
     tie.close
     (tie.spec
-    in-table-requires
+    look-up-requires
     refuse-requires
     returns
     get-requires
