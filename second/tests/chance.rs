@@ -3,7 +3,7 @@
 
 mod common;
 
-use common::{Host, MSID};
+use common::{word, Host, MSID};
 use second::requests::{self, built, named_bytes, named_integer, named_integers};
 use second::uid::{self, Uid};
 use second::Card;
@@ -95,10 +95,6 @@ fn start(chance: &mut Chance) -> Vec<u8> {
     requests::start_session(7, &sp, true, challenge.as_deref(), authority.as_ref())
 }
 
-fn number(image: &[u8], at: usize) -> u32 {
-    common::word(image, at)
-}
-
 #[test]
 fn histories() {
     let mut statuses = [0u32; 256];
@@ -110,7 +106,7 @@ fn histories() {
             let mut request = if image[179] == 0 || chance.below(20) == 0 {
                 requests::envelope(0, 0, &start(&mut chance))
             } else {
-                requests::envelope(number(&image, 181), number(&image, 185), &payload(&mut chance))
+                requests::envelope(word(&image, 181), word(&image, 185), &payload(&mut chance))
             };
             if chance.below(40) == 0 {
                 let at = chance.below(request.len() as u64) as usize;

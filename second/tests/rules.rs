@@ -327,8 +327,8 @@ fn sets_in_order_of_checks() {
     host.activate();
     assert_eq!(host.start(&uid::LOCKING_SP, None, None), 0);
     // The row comes before the shape.
-    assert_eq!(raw(&mut host, &uid::admin(1), &[0x40 - 1]), 1);
-    assert_eq!(raw(&mut host, &uid::admin(2), &[0x40 - 1]), 0x0C);
+    assert_eq!(raw(&mut host, &uid::admin(1), &[0x3F]), 1);
+    assert_eq!(raw(&mut host, &uid::admin(2), &[0x3F]), 0x0C);
     // Nothing named is allowed to all.
     assert_eq!(raw(&mut host, &uid::range(1), &[]), 0);
     assert_eq!(host.set(&uid::range(1), &[]), 0);
@@ -360,7 +360,7 @@ fn sets_in_order_of_checks() {
     for value in [&[0x01][..], &[0xF0, 0xA0, 0xF1]] {
         let columns = built(|tokens| named(tokens, 3, value));
         assert_eq!(host.call(requests::set(&uid::c_pin_user(1), &columns)), 0x0C);
-        assert_eq!(host.call(requests::set(&uid::c_pin_user(1), &columns)), 0x0C);
+        assert_eq!(host.call(requests::set(&uid::c_pin_admin(1), &columns)), 0x0C);
     }
     assert_eq!(host.call(requests::set_pin(&uid::c_pin_user(1), &[7; 32])), 0);
     assert_eq!(host.call(requests::set_pin(&uid::c_pin_user(1), &[7; 33])), 0x0C);

@@ -5,6 +5,7 @@
 
 #![forbid(unsafe_code)]
 
+mod layout;
 mod scenes;
 
 use std::hint::black_box;
@@ -35,9 +36,11 @@ fn main() -> ExitCode {
 fn table(scenes: &[Scene]) -> Result<String, String> {
     let mut table = format!(
         "Commands a second: best of {ROUNDS} rounds of {BATCH} commands, the programs by turns.\n\
-         Answer buffer {ANSWER_ROOM} bytes, not cleared between commands; record {} bytes; requests as listed.\n\n\
+         Answer buffer {ANSWER_ROOM} bytes, not cleared between commands; requests as listed.\n\
+         The record: {} bytes as an image, {} as the library's Card in memory.\n\n\
          {:20} {:>7} {:>12} {:>12} {:>7} {:>14} {:>7}\n",
         flamepocket::ffi::record_length(),
+        layout::CARD_BYTES,
         "request",
         "bytes",
         "library",

@@ -35,6 +35,12 @@ impl Chance {
         (0..count).map(|_| self.byte()).collect()
     }
 
+    /// Turns one bit of some bytes over.
+    pub fn flip_bit(&mut self, bytes: &mut [u8]) {
+        let at = self.index(bytes.len());
+        bytes[at] ^= 1 << self.below(8);
+    }
+
     /// One of several, each as likely as the next.
     pub fn of<T: Clone>(&mut self, choices: &[T]) -> T {
         choices[self.index(choices.len())].clone()

@@ -47,12 +47,18 @@ const TRANSACTION_ENDS: &[&str] = &["commit", "abandon", "end of session", "powe
 
 const NUMBERS: [&str; 8] =
     ["number 0", "number 1", "number 2", "number 3", "number 4", "number 5", "number 6", "number 7"];
+const STATUSES: [&str; 6] = ["status 00", "status 01", "status 07", "status 0C", "status 12", "status 3F"];
+/// In the order of the library's numbers for them.
+const RULINGS: [&str; 4] = ["disk", "unsound", "shadow", "refused"];
+
+/// What is counted over all kinds of event, each to have come up.
+const TOTALS: [(&str, &[&str]); 3] = [("by number", &NUMBERS), ("by status", &STATUSES), ("by ruling", &RULINGS)];
 
 #[derive(Default)]
 pub struct Coverage {
     events: u64,
     results: BTreeMap<(&'static str, String), u64>,
-    numbers: BTreeMap<&'static str, u64>,
+    totals: BTreeMap<&'static str, u64>,
     /// The kinds of event that ended a transaction.
     transaction_ends: BTreeMap<&'static str, u64>,
 }
@@ -60,15 +66,17 @@ pub struct Coverage {
 impl Coverage {
     pub fn count(&mut self, name: &'static str, event: &Event, outcome: &Outcome) {
         self.events += 1;
-        *self.results.entry((name, result(event, outcome))).or_default() += 1;
-        let number = match event {
-            Event::Command { .. } if outcome.answer().is_some() => 0,
-            Event::Media { .. } if outcome.number != 1 => 0,
-            _ => outcome.number,
+        let result = result(event, outcome);
+        let (number, ruling) = match event {
+            Event::Command { .. } if outcome.answer().is_some() => (0, None),
+            Event::Media { .. } => (usize::from(outcome.number == 1), RULINGS.get(outcome.number)),
+            _ => (outcome.number, None),
         };
-        if let Some(number) = NUMBERS.get(number) {
-            *self.numbers.entry(number).or_default() += 1;
+        let status = STATUSES.iter().find(|status| result.starts_with(**status));
+        for total in [NUMBERS.get(number), status, ruling].into_iter().flatten() {
+            *self.totals.entry(total).or_default() += 1;
         }
+        *self.results.entry((name, result)).or_default() += 1;
     }
 
     pub fn count_transaction_end(&mut self, name: &'static str) {
@@ -86,8 +94,8 @@ impl Coverage {
     /// What should have come up and did not, and what should not and did.
     pub fn gaps(&self) -> Vec<String> {
         let mut gaps = vec![];
-        for number in NUMBERS.iter().filter(|number| !self.numbers.contains_key(**number)) {
-            gaps.push(format!("{number} never came"));
+        for total in TOTALS.iter().flat_map(|(_, totals)| *totals).filter(|total| !self.totals.contains_key(**total)) {
+            gaps.push(format!("{total} never came"));
         }
         for name in generator::names() {
             if !self.results.keys().any(|(kind, _)| *kind == name) {
@@ -118,7 +126,9 @@ impl Coverage {
 impl fmt::Display for Coverage {
     fn fmt(&self, out: &mut fmt::Formatter<'_>) -> fmt::Result {
         writeln!(out, "{} events", self.events)?;
-        line(out, "by number", self.numbers.iter().map(|(number, count)| (*number, count)))?;
+        for (head, totals) in TOTALS {
+            line(out, head, totals.iter().filter_map(|total| Some((*total, self.totals.get(total)?))))?;
+        }
         for name in generator::names() {
             let of_name = self.results.iter().filter(|((kind, _), _)| *kind == name);
             line(out, name, of_name.map(|((_, result), count)| (result.as_str(), count)))?;
@@ -169,4 +179,21 @@ fn answered(payload: &[u8]) -> String {
 /// Whether a payload begins F8, the session manager's UID, this method's.
 fn is_call_of(payload: &[u8], method: &[u8; 8]) -> bool {
     payload.first() == Some(&0xF8) && payload.get(11..19) == Some(method)
+}
+
+#[cfg(test)]
+mod tests {
+    use super::*;
+
+    #[test]
+    fn what_never_came_is_a_gap() {
+        let gaps = Coverage::default().gaps();
+        let totals = TOTALS.iter().flat_map(|(_, totals)| *totals).map(|total| format!("{total} never came"));
+        let names = generator::names().into_iter().map(|name| format!("{name}: never came"));
+        let ends = TRANSACTION_ENDS.iter().map(|end| format!("no transaction ended by {end}"));
+        for gap in totals.chain(names).chain(ends) {
+            assert!(gaps.contains(&gap), "{gap}");
+        }
+        assert_eq!(generator::unsound_names().count(), 28);
+    }
 }

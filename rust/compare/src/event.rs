@@ -72,7 +72,7 @@ pub fn hex(bytes: &[u8]) -> String {
     bytes.iter().map(|byte| format!("{byte:02X}")).collect()
 }
 
-fn unhex(digits: &str) -> Result<Vec<u8>, String> {
+pub fn unhex(digits: &str) -> Result<Vec<u8>, String> {
     if digits == "-" {
         return Ok(vec![]);
     }

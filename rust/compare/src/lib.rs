@@ -10,6 +10,7 @@
 
 #![forbid(unsafe_code)]
 
+mod big_endian;
 pub mod chance;
 pub mod coverage;
 pub mod damage_tour;

@@ -27,6 +27,7 @@ fn histories(seed: u64, events: u64) -> ExitCode {
     let mut coverage = Coverage::default();
     let result = run::histories(seed, events, &mut coverage);
     print!("{}", lines_as_comments(&coverage.to_string()));
+    print!("{}", lines_as_comments(&coverage.gaps().join("\n")));
     shown(result)
 }
 

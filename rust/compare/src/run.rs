@@ -9,6 +9,7 @@ use crate::generator::{self, Step};
 use crate::shrink::{self, Past};
 use crate::sides::Pair;
 use crate::state::{Session, State};
+use flamepocket::ffi;
 
 /// The longest history.
 const LONGEST: u64 = 500;
@@ -27,6 +28,10 @@ impl fmt::Display for Difference {
         }
         for line in self.words.lines() {
             writeln!(out, "# {line}")?;
+        }
+        let before_last = self.events.split_last().map_or(&[][..], |(_, before)| before);
+        if before_last.iter().any(|event| matches!(event, Event::Load(image) if ffi::sound(image) != 0)) {
+            writeln!(out, "# pocket takes no unsound image: only `compare SCRIPT` goes on past it")?;
         }
         Ok(())
     }
@@ -110,4 +115,25 @@ pub fn replay(events: &[Event]) -> Result<(), Box<Difference>> {
         }
     }
     Ok(())
+}
+
+#[cfg(test)]
+mod tests {
+    use super::*;
+    use crate::event::script;
+
+    #[test]
+    fn a_difference_is_a_script() {
+        let events = vec![
+            Event::New { n: 1_000_000, msid: vec![7; 32] },
+            Event::Command { room: 2048, request: vec![] },
+            Event::Load(vec![1, 2]),
+            Event::Media { write: true, start: 5, count: 1 },
+        ];
+        let difference = Difference { events: events.clone(), words: "library: one\nsecond: another".into() };
+        let text = difference.to_string();
+        assert_eq!(script(&text), Ok(events));
+        assert!(text.contains("# second: another\n# pocket takes no unsound image"));
+        assert!(replay(&difference.events).is_ok());
+    }
 }

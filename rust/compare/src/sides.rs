@@ -30,6 +30,7 @@ impl Outcome {
 const SHORTEST_ANSWER: usize = 60;
 
 /// Both programs, on images that were equal before the event.
+#[derive(Clone)]
 pub struct Pair {
     library: Library,
     second: Second,
@@ -84,6 +85,7 @@ fn filled(room: usize) -> Vec<u8> {
     (0..room).map(|at| (at * 167 + 41) as u8).collect()
 }
 
+#[derive(Clone)]
 struct Library {
     image: Vec<u8>,
 }
@@ -117,6 +119,7 @@ impl Library {
     }
 }
 
+#[derive(Clone)]
 struct Second {
     image: Vec<u8>,
     /// None where the image is none.

@@ -1,5 +1,7 @@
 //! What a history's generator knows of the card: it reads the image, as `docs/IMAGE.md` lays it out.
 
+use crate::big_endian::{long, word};
+
 pub const IMAGE_LENGTH: usize = 1188;
 pub const PIN_ROWS: usize = 13;
 pub const RANGES: usize = 5;
@@ -51,20 +53,12 @@ pub struct Session {
 }
 
 impl State {
-    fn word(&self, at: usize) -> u32 {
-        self.0[at..at + 4].iter().fold(0, |sum, byte| sum << 8 | u32::from(*byte))
-    }
-
-    fn long(&self, at: usize) -> u64 {
-        self.0[at..at + 8].iter().fold(0, |sum, byte| sum << 8 | u64::from(*byte))
-    }
-
     fn flag(&self, at: usize) -> bool {
         self.0[at] == 1
     }
 
     pub fn n(&self) -> u64 {
-        self.long(place::N)
+        long(&self.0, place::N)
     }
 
     pub fn msid(&self) -> &[u8] {
@@ -82,7 +76,7 @@ impl State {
     /// Start and length of a range.
     pub fn range(&self, row: usize) -> (u64, u64) {
         let at = place::TABLES + place::RANGES + row * place::RANGE_SIZE;
-        (self.long(at), self.long(at + 8))
+        (long(&self.0, at), long(&self.0, at + 8))
     }
 
     pub fn enabled(&self, row: usize) -> bool {
@@ -108,8 +102,8 @@ impl State {
 
     pub fn session(&self) -> Option<Session> {
         self.flag(place::SESSION).then(|| Session {
-            tsn: self.word(place::SESSION_TSN),
-            hsn: self.word(place::SESSION_HSN),
+            tsn: word(&self.0, place::SESSION_TSN),
+            hsn: word(&self.0, place::SESSION_HSN),
             locking: self.flag(place::SESSION_LOCKING),
         })
     }

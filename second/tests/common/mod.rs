@@ -1,4 +1,4 @@
-//! A host for the tests: it sends payloads and takes answers apart by hand, not with the library's reader.
+//! A host for the tests: it sends payloads and takes answers apart by hand, not with the card's own reader.
 #![allow(dead_code)]
 
 use second::requests;

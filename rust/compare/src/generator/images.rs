@@ -1,6 +1,7 @@
 //! Images to load: other sound records, one for each clause of soundness that is broken, and bytes that are no image.
 
 use super::{Damage, AS_IT_IS};
+use crate::big_endian::{long, put_long, put_word};
 use crate::chance::Chance;
 use crate::state::{place, IMAGE_LENGTH, PIN_ROWS, RANGES};
 
@@ -58,20 +59,12 @@ pub(super) const UNSOUND: &[Damage] = &[
 
 /// Bytes changed anywhere: the record may be sound or not, or none.
 pub(super) const ANY: &[Damage] = &[
-    Damage { name: "image: bit flipped", apply: flip_bit },
+    Damage { name: "image: bit flipped", apply: |chance, image| chance.flip_bit(image) },
     Damage { name: "image: byte changed", apply: change_byte },
 ];
 
-fn put_word(image: &mut [u8], at: usize, value: u32) {
-    image[at..at + 4].copy_from_slice(&value.to_be_bytes());
-}
-
-fn put_long(image: &mut [u8], at: usize, value: u64) {
-    image[at..at + 8].copy_from_slice(&value.to_be_bytes());
-}
-
 fn n(image: &[u8]) -> u64 {
-    image[place::N..place::N + 8].iter().fold(0, |sum, byte| sum << 8 | u64::from(*byte))
+    long(image, place::N)
 }
 
 fn range_at(tables: usize, row: usize) -> usize {
@@ -266,11 +259,6 @@ fn other_length(chance: &mut Chance, image: &mut Vec<u8>) {
     let any = chance.index(IMAGE_LENGTH);
     let other = chance.of(&[any, 0, 1, IMAGE_LENGTH - 1, IMAGE_LENGTH + 1, 2 * IMAGE_LENGTH]);
     image.resize(other, 0);
-}
-
-fn flip_bit(chance: &mut Chance, image: &mut Vec<u8>) {
-    let at = chance.index(image.len());
-    image[at] ^= 1 << chance.below(8);
 }
 
 fn change_byte(chance: &mut Chance, image: &mut Vec<u8>) {

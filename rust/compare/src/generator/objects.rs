@@ -104,10 +104,6 @@ pub fn locking_row(chance: &mut Chance) -> usize {
     }
 }
 
-fn range_row(chance: &mut Chance) -> usize {
-    chance.index(RANGES)
-}
-
 /// An object, most times of the SP that the session is open to.
 pub fn object(chance: &mut Chance, locking: bool) -> Object {
     if chance.one_in(16) {
@@ -116,7 +112,7 @@ pub fn object(chance: &mut Chance, locking: bool) -> Object {
     let of_locking = locking != chance.one_in(20);
     if of_locking {
         match chance.below(12) {
-            0..=4 => Object::Range(range_row(chance)),
+            0..=4 => Object::Range(chance.index(RANGES)),
             5 | 6 => Object::Pin(locking_row(chance)),
             7 | 8 => Object::Authority(locking_row(chance)),
             9 | 10 => Object::MbrControl,
@@ -154,7 +150,7 @@ fn stranger(chance: &mut Chance) -> Uid {
         uid::THIS_SP,
     ]);
     if chance.one_in(2) {
-        uid[chance.index(8)] ^= 1 << chance.below(8);
+        chance.flip_bit(&mut uid);
     }
     uid
 }
@@ -204,8 +200,7 @@ pub fn offered_pin(chance: &mut Chance, state: &State, row: Option<usize>) -> Ve
             1 => drop(pin.pop()),
             2 => pin.clear(),
             3 if !pin.is_empty() => {
-                let at = chance.index(pin.len());
-                pin[at] ^= 1 << chance.below(8);
+                chance.flip_bit(&mut pin);
             }
             4 => pin.resize(33, 0),
             _ => pin = any_pin(chance, state),

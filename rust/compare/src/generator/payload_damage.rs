@@ -1,12 +1,12 @@
 //! Ways to change a payload: some break it, some only write it otherwise.
 
-use super::values::{bytes_tokens, integer_tokens, list_tokens};
+use super::values::{bytes_tokens, integer_tokens, list_tokens, named_tokens};
 use super::Damage;
 use crate::chance::Chance;
 use second::tokens::{self, Token};
 
 pub(super) const TABLE: &[Damage] = &[
-    Damage { name: "payload: bit flipped", apply: flip_bit },
+    Damage { name: "payload: bit flipped", apply: |chance, payload| chance.flip_bit(payload) },
     Damage { name: "payload: byte changed", apply: change_byte },
     Damage { name: "payload: byte inserted", apply: insert_byte },
     Damage { name: "payload: byte removed", apply: remove_byte },
@@ -71,11 +71,6 @@ fn on_atom(chance: &mut Chance, payload: &mut Vec<u8>, change: impl FnOnce(&mut 
             change(chance, &mut pieces[at]);
         }
     });
-}
-
-fn flip_bit(chance: &mut Chance, payload: &mut Vec<u8>) {
-    let at = chance.index(payload.len());
-    payload[at] ^= 1 << chance.below(8);
 }
 
 fn change_byte(chance: &mut Chance, payload: &mut Vec<u8>) {
@@ -244,11 +239,7 @@ fn nest(chance: &mut Chance, payload: &mut Vec<u8>) {
     // Lists alone, named values alone, or both.
     let names_of_4 = chance.of(&[0, 2, 4]);
     for _ in 0..chance.of(&[12, 13, 13, 14, 14, 15]) {
-        value = if chance.below(4) >= names_of_4 {
-            list_tokens(&[value])
-        } else {
-            [&[0xF2, 0x01][..], &value, &[0xF3]].concat()
-        };
+        value = if chance.below(4) >= names_of_4 { list_tokens(&[value]) } else { named_tokens(1, &value) };
     }
     on_tokens(payload, |pieces| {
         let open = pieces.iter().position(|token| token[0] == 0xF0);

@@ -1,19 +1,20 @@
 //! Ways to change a whole request: its headers, its pad and its length.
 
 use super::Damage;
+use crate::big_endian::{put_word, word};
 use crate::chance::Chance;
 
 pub(super) const TABLE: &[Damage] = &[
-    Damage { name: "envelope: ComID", apply: com_id },
-    Damage { name: "envelope: extension", apply: extension },
-    Damage { name: "envelope: Kind", apply: kind },
+    Damage { name: "envelope: ComID", apply: |chance, request| chance.flip_bit(&mut request[4..6]) },
+    Damage { name: "envelope: extension", apply: |chance, request| chance.flip_bit(&mut request[6..8]) },
+    Damage { name: "envelope: Kind", apply: |chance, request| chance.flip_bit(&mut request[50..52]) },
     Damage { name: "envelope: ignored fields", apply: ignored_fields },
     Damage { name: "envelope: one length", apply: one_length },
     Damage { name: "envelope: lengths in step", apply: lengths_in_step },
     Damage { name: "envelope: payload into pad", apply: payload_into_pad },
     Damage { name: "envelope: no payload", apply: no_payload },
     Damage { name: "envelope: pad not zero", apply: pad_not_zero },
-    Damage { name: "envelope: bit flipped", apply: flip_header_bit },
+    Damage { name: "envelope: bit flipped", apply: |chance, request| chance.flip_bit(&mut request[..HEADERS]) },
     Damage { name: "envelope: TSN and HSN", apply: session_numbers },
     Damage { name: "request: cut short", apply: cut },
     Damage { name: "request: bytes beyond", apply: bytes_beyond },
@@ -25,31 +26,6 @@ const HEADERS: usize = 56;
 const LIMIT: usize = 2048;
 /// The lengths of ComPacket, Packet and Subpacket.
 const LENGTHS: [usize; 3] = [16, 40, 52];
-
-fn word(request: &[u8], at: usize) -> u32 {
-    request[at..at + 4].iter().fold(0, |sum, byte| sum << 8 | u32::from(*byte))
-}
-
-fn put_word(request: &mut [u8], at: usize, value: u32) {
-    request[at..at + 4].copy_from_slice(&value.to_be_bytes());
-}
-
-fn flip_bit_in(chance: &mut Chance, bytes: &mut [u8]) {
-    let at = chance.index(bytes.len());
-    bytes[at] ^= 1 << chance.below(8);
-}
-
-fn com_id(chance: &mut Chance, request: &mut Vec<u8>) {
-    flip_bit_in(chance, &mut request[4..6]);
-}
-
-fn extension(chance: &mut Chance, request: &mut Vec<u8>) {
-    flip_bit_in(chance, &mut request[6..8]);
-}
-
-fn kind(chance: &mut Chance, request: &mut Vec<u8>) {
-    flip_bit_in(chance, &mut request[50..52]);
-}
 
 /// Reserved bytes, OutstandingData, MinTransfer, sequence, AckType and acknowledgement.
 fn ignored_fields(chance: &mut Chance, request: &mut Vec<u8>) {
@@ -113,10 +89,6 @@ fn no_payload(_: &mut Chance, request: &mut Vec<u8>) {
 fn pad_not_zero(chance: &mut Chance, request: &mut Vec<u8>) {
     let payload_end = HEADERS + word(request, LENGTHS[2]) as usize;
     request[payload_end..].iter_mut().for_each(|byte| *byte = chance.byte());
-}
-
-fn flip_header_bit(chance: &mut Chance, request: &mut Vec<u8>) {
-    flip_bit_in(chance, &mut request[..HEADERS]);
 }
 
 fn session_numbers(chance: &mut Chance, request: &mut Vec<u8>) {
