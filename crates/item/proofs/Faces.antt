@@ -2,14 +2,11 @@
 use Prim.Native.Nat.{ℕ, _-_}
 use mathlib.Core.Path.{_≡_, refl, sym, ap, _∙_}
 use mathlib.Core.List.{List}
-use mathlib.Core.Bool.{cond}
 use native.Mathlib.Omega.{arith}
-use lib.Dec.{eqb}
 use borrow.Author.Tests.{eq-eqb, ne-eqb}
 use Rattle.token.specs.declared.Token.{Token}
 use Rattle.token.specs.declared.Token.the-variants as K
 use Rattle.token.specs.Token.{tokenAt}
-use Rattle.value.specs.declared.End.{End}
 use Rattle.value.specs.declared.End.the-variants as E
 use Rattle.value.specs.Value.{Atom, int, bytes, Value, named}
 use Rattle.value.specs.Read.{Out, ok, bad, endOf, markOf, atomIs, namedBy, valueAt}
@@ -18,19 +15,13 @@ use Rattle.item.specs.declared.Slot.the-variants as S
 use Rattle.item.specs.declared.Item.{Item}
 use Rattle.item.specs.declared.Item.the-variants as I
 use Rattle.item.specs.Item.{slotOf, itemOf, stepOf}
-use Rattle.item.proofs.Read.{no-ok, Named, named-is, Form, of-int, of-bytes, of-list, of-named, form}
+use Rattle.item.specs.Face.{faceOf}
+use Rattle.item.proofs.Read.{no-ok, named-is, Form, of-int, of-bytes, of-list, of-named, form}
 
 no-end : {A : Type 0} {q : ℕ} → E.At q ≡ E.Broken → A
 no-end {q = q} e = absurd (let z : _≡_ {A = ℕ} 0 1 = cc in omega arith)
 
--- ---- `flat`: a value by its first token
-unfoldable pub faceOf : Token → Slot
-faceOf (K.Int v q) = S.Int v
-faceOf (K.Bytes p n q) = S.Bytes p n
-faceOf (K.Control c q) = cond (eqb c 0xf0) (S.List q) S.Named
-faceOf K.End = S.Absent
-faceOf K.Broken = S.Absent
-
+-- ---- a value by its first token
 form-face : (s : List ℕ) (d : ℕ) {t : Token} {v : Value} {q : ℕ} → Form s d t v q → faceOf t ≡ slotOf v
 unfolding faceOf slotOf
 form-face s d (of-int a q) = refl
@@ -38,17 +29,17 @@ form-face s d (of-bytes b n q) = refl
 form-face s d (of-list b q vs h) = refl
 form-face s d (of-named b q v h) = let n = named-is (tokenAt s) (valueAt s (d - 1)) b h in rw (n .whole)
 
-pub flat-is : (s : List ℕ) (p : ℕ) {t u : Token} → t ≡ tokenAt s p → t ≡ u → (d q : ℕ) (v : Value) → valueAt s d p ≡ ok v q → faceOf u ≡ slotOf v
-flat-is s p e h d q v k = rw (sym e ∙ h) at (form-face s d (form s d p k))
+face-is : (s : List ℕ) (d p q : ℕ) (x : Slot) (v : Value) {t : Token} → t ≡ tokenAt s p → x ≡ faceOf t → valueAt s d p ≡ ok v q → x ≡ slotOf v
+face-is s d p q x v e h k = h ∙ rw (← e) at (form-face s d (form s d p k))
 
-module _ (s : List ℕ) (p c n : ℕ) {t : Token} (e : t ≡ tokenAt s p) (h : t ≡ K.Control c n) (d q : ℕ) (v : Value) (k : valueAt s d p ≡ ok v q) where
-  pub flat-list : c ≡ 0xf0 → S.List n ≡ slotOf v
+module _ (c n : ℕ) where
+  pub face-list : c ≡ 0xf0 → S.List n ≡ faceOf (K.Control c n)
   unfolding faceOf
-  flat-list i = rw (eq-eqb c 0xf0 i) at (flat-is s p e h d q v k)
+  face-list i = rw (eq-eqb c 0xf0 i)
 
-  pub flat-named : (c ≡ 0xf0 → ⊥) → S.Named ≡ slotOf v
+  pub face-named : (c ≡ 0xf0 → ⊥) → S.Named ≡ faceOf (K.Control c n)
   unfolding faceOf
-  flat-named i = rw (ne-eqb c 0xf0 i) at (flat-is s p e h d q v k)
+  face-named i = rw (ne-eqb c 0xf0 i)
 
 -- ---- `named`
 other-name : (q : ℕ) (x : Value) (t : Token) (a : Atom) (r : ℕ) → ((n r : ℕ) → t ≡ K.Int n r → ⊥) → atomIs t ≡ ok a r → I.Plain S.Named q ≡ itemOf (named a x) q
@@ -60,15 +51,15 @@ other-name q x K.End a r g h = no-ok h
 other-name q x K.Broken a r g h = no-ok h
 
 module _ (s : List ℕ) (p q : ℕ) {t : Token} (e : t ≡ tokenAt s p) where
-  pub named-int : (n r : ℕ) (x : Slot) → t ≡ K.Int n r → ((d q : ℕ) (v : Value) → valueAt s d r ≡ ok v q → x ≡ slotOf v)
+  pub named-int : (n r : ℕ) (x : Slot) {u : Token} → t ≡ K.Int n r → u ≡ tokenAt s r → x ≡ faceOf u
       → (d : ℕ) (v : Value) → namedBy (tokenAt s) (valueAt s d) p ≡ ok v q → I.Named n x q ≡ itemOf v q
   unfolding itemOf atomIs
-  named-int n r x h f d v k =
+  named-int n r x h f g d v k =
       let w = named-is (tokenAt s) (valueAt s d) p k in
       let a : ok (int n) r ≡ ok (w .name) (w .mid) = rw (sym e ∙ h) at (w .first) in
       let i : w .name ≡ int n = cc in
       let j : w .mid ≡ r = cc in
-      rw (w .whole, i) (ap (λ (y : Slot). I.Named n y q) (f d (w .end) (w .value) (rw j at (w .second))))
+      rw (w .whole, i) (ap (λ (y : Slot). I.Named n y q) (face-is s d r (w .end) x (w .value) f g (rw j at (w .second))))
 
   pub named-other : ((n r : ℕ) → t ≡ K.Int n r → ⊥) → (d : ℕ) (v : Value) → namedBy (tokenAt s) (valueAt s d) p ≡ ok v q → I.Plain S.Named q ≡ itemOf v q
   named-other g d v k = let w = named-is (tokenAt s) (valueAt s d) p k in rw (w .whole) (other-name q (w .value) t (w .name) (w .mid) g (rw (← e) at (w .first)))
@@ -109,6 +100,6 @@ form-plain s d (of-bytes b n q) e = refl
 form-plain s d (of-list b q vs h) e = refl
 form-plain s d (of-named b q v h) e = no-end e
 
-pub step-plain : (s : List ℕ) (d p q : ℕ) (x : Slot) (v : Value) → endOf (markOf 0xf2 (tokenAt s p)) ≡ E.Broken
-    → ((d q : ℕ) (v : Value) → valueAt s d p ≡ ok v q → x ≡ slotOf v) → valueAt s d p ≡ ok v q → I.Plain x q ≡ itemOf v q
-step-plain s d p q x v e f h = rw (f d q v h) (form-plain s d (form s d p h) e)
+pub step-plain : (s : List ℕ) (d p q : ℕ) (x : Slot) (v : Value) {t : Token} → t ≡ tokenAt s p → x ≡ faceOf t
+    → endOf (markOf 0xf2 (tokenAt s p)) ≡ E.Broken → valueAt s d p ≡ ok v q → I.Plain x q ≡ itemOf v q
+step-plain s d p q x v e f m h = rw (face-is s d p q x v e f h) (form-plain s d (form s d p h) m)

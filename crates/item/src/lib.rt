@@ -6,7 +6,8 @@ ghost use Prim.Native.Nat.{ℕ};
 ghost use Rattle.token.specs.Token.{tokenAt};
 ghost use Rattle.value.specs.Value.{Value};
 ghost use Rattle.value.specs.Read.{ok, namedBy, valueAt};
-ghost use Rattle.item.specs.Item.{slotOf, itemOf, stepAt};
+ghost use Rattle.item.specs.Item.{itemOf, stepAt};
+ghost use Rattle.item.specs.Face.{faceOf};
 ghost use Rattle.item.specs.Laws.{Step};
 
 // A value, seen flat. Places are those of the slice that it was read from.
@@ -29,11 +30,10 @@ pub enum Item {
     Broken,
 }
 
-// The value at at, seen flat, if one stands there.
-fn flat(s: &[u8], at: usize) -> Slot
-    ensures { λ r. ⌜ ((d q : ℕ) (v : Value) → valueAt (now (s .entry)) d at ≡ ok v q → r ≡ slotOf v) ⌝ }
+// A value by its first token, seen flat.
+fn flat(t: Token) -> Slot
+    ensures { λ r. ⌜ r ≡ faceOf t ⌝ }
 {
-    let t = token::read(s, at);
     match t {
         Token::Int { value, next: _ } => {
             return Slot::Int(value);
@@ -70,7 +70,8 @@ fn named(s: &[u8], at: usize, end: usize) -> Item
     let t = token::read(s, at);
     match t {
         Token::Int { value, next } => {
-            let x = flat(s, next);
+            let u = token::read(s, next);
+            let x = flat(u);
             return Item::Named {
                 name: value,
                 slot: x,
@@ -90,22 +91,23 @@ fn named(s: &[u8], at: usize, end: usize) -> Item
 pub fn step(s: &[u8], at: usize, depth: usize) -> Item
     ensures { λ r. ⌜ r ≡ stepAt (now (s .entry)) depth at ⌝ }
 {
-    let e = value::mark_at(s, at, 0xf1);
+    let t = token::read(s, at);
+    let e = value::mark(t, 0xf1);
     match e {
         End::At(q) => {
             return Item::Shut(q);
         }
         End::Broken => {
-            let v = value::value_at(s, at, depth);
+            let v = value::opened_in(s, t, depth);
             match v {
                 End::At(q) => {
-                    let n = value::mark_at(s, at, 0xf2);
+                    let n = value::mark(t, 0xf2);
                     match n {
                         End::At(p) => {
                             return named(s, p, q);
                         }
                         End::Broken => {
-                            let x = flat(s, at);
+                            let x = flat(t);
                             return Item::Plain { slot: x, next: q };
                         }
                     }

@@ -1,4 +1,4 @@
--- `valueBy` and `valuesBy` at what the tests of `value` and `list` show, for any source whose tokens end past their start and by N; the bound on the steps never shows.
+-- `openedBy` and `valuesBy` at what the tests of `opened` and `list` show, for any source whose tokens end past their start and by N; the bound on the steps never shows.
 use Prim.Native.Nat.{ℕ, zero, suc, _-_, _≤_, _<_}
 use mathlib.Core.Path.{_≡_, refl, sym, ap, _∙_}
 use native.Mathlib.Omega.{arith}
@@ -9,40 +9,49 @@ use Rattle.token.specs.declared.Token.the-variants as K
 use Rattle.value.specs.declared.End.{End}
 use Rattle.value.specs.declared.End.the-variants as E
 use Rattle.value.specs.Value.{int, bytes, Value, atom, list, named, Values, none, more}
-use Rattle.value.specs.Read.{Out, ok, bad, then, endOf, markOf, atomIs, endOr, valuesBy, listBy, namedBy, nestBy, valueOf, valueBy}
+use Rattle.value.specs.Read.{Out, ok, bad, then, endOf, markOf, atomIs, endOr, valuesBy, listBy, namedBy, nestBy, valueOf, valueBy, openedBy}
 use Rattle.value.proofs.Outs.{Ends, Any, Has, mark-ends, then-agree, then-past, then-bad, then-at, then-is, then-made, end-is, end-bad, or-past, or-at, or-on}
 
--- ---- a value, by its first token
+-- ---- a value, by the token that opens it
 module _ (tok : ℕ → Token) (n : ℕ) where
-  pub value-int : (d p v q : ℕ) → tok p ≡ K.Int v q → valueBy tok n d p ≡ ok (atom (int v)) q
-  unfolding valueBy valueOf
-  value-int zero p v q e = rw e
-  value-int (suc d) p v q e = rw e
+  opens : (d p : ℕ) → valueBy tok n d p ≡ openedBy tok n d (tok p)
+  unfolding valueBy openedBy
+  opens zero p = refl
+  opens (suc d) p = refl
 
-  pub value-bytes : (d p b m q : ℕ) → tok p ≡ K.Bytes b m q → valueBy tok n d p ≡ ok (atom (bytes b m)) q
-  unfolding valueBy valueOf
-  value-bytes zero p b m q e = rw e
-  value-bytes (suc d) p b m q e = rw e
+  -- the value at p ends where that ends which the token there opens
+  pub value-by : (d p : ℕ) {t : Token} {e z : End} → t ≡ tok p → e ≡ endOf (openedBy tok n d t) → e ≡ z → endOf (valueBy tok n d p) ≡ z
+  value-by d p h k i = ap endOf (opens d p) ∙ ap (λ (x : Token). endOf (openedBy tok n d x)) (sym h) ∙ sym k ∙ i
 
-  pub value-none : (d p : ℕ) → tok p ≡ K.End → valueBy tok n d p ≡ bad
-  unfolding valueBy valueOf
-  value-none zero p e = rw e
-  value-none (suc d) p e = rw e
+  pub opened-int : (d v q : ℕ) → openedBy tok n d (K.Int v q) ≡ ok (atom (int v)) q
+  unfolding openedBy valueOf
+  opened-int zero v q = refl
+  opened-int (suc d) v q = refl
 
-  pub value-broken : (d p : ℕ) → tok p ≡ K.Broken → valueBy tok n d p ≡ bad
-  unfolding valueBy valueOf
-  value-broken zero p e = rw e
-  value-broken (suc d) p e = rw e
+  pub opened-bytes : (d b m q : ℕ) → openedBy tok n d (K.Bytes b m q) ≡ ok (atom (bytes b m)) q
+  unfolding openedBy valueOf
+  opened-bytes zero b m q = refl
+  opened-bytes (suc d) b m q = refl
 
-  pub value-deep : (d p c q : ℕ) → d ≡ 0 → tok p ≡ K.Control c q → valueBy tok n d p ≡ bad
-  unfolding valueBy valueOf
-  value-deep zero p c q h e = rw e
-  value-deep (suc d) p c q h e = absurd (omega arith)
+  pub opened-none : (d : ℕ) → openedBy tok n d K.End ≡ bad
+  unfolding openedBy valueOf
+  opened-none zero = refl
+  opened-none (suc d) = refl
 
-  pub value-nest : (d p c q : ℕ) → (d ≡ 0 → ⊥) → tok p ≡ K.Control c q → valueBy tok n d p ≡ nestBy tok (valueBy tok n (d - 1)) n c q
-  unfolding valueBy valueOf
-  value-nest zero p c q h e = absurd (h refl)
-  value-nest (suc d) p c q h e = rw (e, sub-one (suc d))
+  pub opened-broken : (d : ℕ) → openedBy tok n d K.Broken ≡ bad
+  unfolding openedBy valueOf
+  opened-broken zero = refl
+  opened-broken (suc d) = refl
+
+  pub opened-deep : (d c q : ℕ) → d ≡ 0 → openedBy tok n d (K.Control c q) ≡ bad
+  unfolding openedBy valueOf
+  opened-deep zero c q h = refl
+  opened-deep (suc d) c q h = absurd (omega arith)
+
+  pub opened-nest : (d c q : ℕ) → (d ≡ 0 → ⊥) → openedBy tok n d (K.Control c q) ≡ nestBy tok (valueBy tok n (d - 1)) n c q
+  unfolding openedBy valueOf
+  opened-nest zero c q h = absurd (h refl)
+  opened-nest (suc d) c q h = rw (sub-one (suc d))
 
 module _ (tok : ℕ → Token) (f : ℕ → Out Value) (n c p : ℕ) where
   pub nest-list : c ≡ 0xf0 → nestBy tok f n c p ≡ listBy tok f n p

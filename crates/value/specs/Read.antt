@@ -85,9 +85,17 @@ unfoldable pub valueBy : (ℕ → Token) → ℕ → ℕ → ℕ → Out Value
 valueBy tok n zero p = valueOf (λ c q. bad) (tok p)
 valueBy tok n (suc d) p = valueOf (nestBy tok (valueBy tok n d) n) (tok p)
 
+-- the same value by the token that opens it
+unfoldable pub openedBy : (ℕ → Token) → ℕ → ℕ → Token → Out Value
+openedBy tok n zero t = valueOf (λ c q. bad) t
+openedBy tok n (suc d) t = valueOf (nestBy tok (valueBy tok n d) n) t
+
 -- in bytes: a list of s has fewer values than s has bytes
 abbrev pub valueAt : List ℕ → ℕ → ℕ → Out Value
 valueAt s d p = valueBy (tokenAt s) (length s) d p
 
 abbrev pub valuesAt : List ℕ → ℕ → ℕ → Out Values
 valuesAt s d p = valuesBy (tokenAt s) (valueAt s d) (length s) p
+
+abbrev pub openedIn : List ℕ → ℕ → Token → Out Value
+openedIn s d t = openedBy (tokenAt s) (length s) d t

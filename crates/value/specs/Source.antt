@@ -12,7 +12,7 @@ use Rattle.token.specs.Write.{maxBytes}
 use Rattle.value.specs.declared.Source.{Source}
 use Rattle.value.specs.declared.Source.the-variants as S
 use Rattle.value.specs.Value.{Value, Values}
-use Rattle.value.specs.Read.{Out, valueBy, valuesBy}
+use Rattle.value.specs.Read.{Out, valueBy, openedBy, valuesBy}
 
 -- count bytes from p on, of m lent
 unfoldable pub partOf : ℕ → ℕ → ℕ → ℕ → Token
@@ -45,6 +45,9 @@ stepsFrom S.Tape bs t = length t / 3
 
 abbrev pub valueFrom : Source → List ℕ → List ℕ → ℕ → ℕ → Out Value
 valueFrom from bs t d p = valueBy (tokenFrom from bs t) (stepsFrom from bs t) d p
+
+abbrev pub openedFrom : Source → List ℕ → List ℕ → ℕ → Token → Out Value
+openedFrom from bs t d k = openedBy (tokenFrom from bs t) (stepsFrom from bs t) d k
 
 abbrev pub valuesFrom : Source → List ℕ → List ℕ → ℕ → ℕ → Out Values
 valuesFrom from bs t d p = valuesBy (tokenFrom from bs t) (valueFrom from bs t d) (stepsFrom from bs t) p

@@ -3,8 +3,8 @@ use token::Token;
 ghost use mathlib.Core.Path.{_≡_};
 ghost use Prim.Native.Nat.{_+_, _*_};
 ghost use Rattle.token.specs.Token.{tokenAt};
-ghost use Rattle.value.specs.Read.{endOf, markOf, atomIs, valueAt, valuesAt};
-ghost use Rattle.value.specs.Source.{partOf, shapeOf, nodeAt, tokenFrom, valueFrom, valuesFrom};
+ghost use Rattle.value.specs.Read.{endOf, markOf, atomIs, valueAt, openedIn, valuesAt};
+ghost use Rattle.value.specs.Source.{partOf, shapeOf, nodeAt, tokenFrom, valueFrom, openedFrom, valuesFrom};
 ghost use Rattle.value.specs.Laws.{ListStep, Inside, Skipped};
 
 pub enum End {
@@ -85,7 +85,7 @@ fn token_from(from: Source, bytes: &[u8], tape: &[u64], at: usize) -> Token
 }
 
 // The end of a token, if it is the control token `code`.
-fn mark(t: Token, code: u8) -> End
+pub fn mark(t: Token, code: u8) -> End
     ensures { λ r. ⌜ r ≡ endOf (markOf code t) ⌝ }
 {
     match t {
@@ -124,11 +124,10 @@ fn name(t: Token) -> End
     }
 }
 
-// The end of the value at at, in which lists and named values nest to depth.
-pub fn value(from: Source, bytes: &[u8], tape: &[u64], at: usize, depth: usize) -> End
-    ensures { λ r. ⌜ r ≡ endOf (valueFrom from (now (bytes .entry)) (now (tape .entry)) depth at) ⌝ }
+// The end of the value that the token t opens, in which lists and named values nest to depth.
+fn opened(from: Source, bytes: &[u8], tape: &[u64], t: Token, depth: usize) -> End
+    ensures { λ r. ⌜ r ≡ endOf (openedFrom from (now (bytes .entry)) (now (tape .entry)) depth t) ⌝ }
 {
-    let t = token_from(from, bytes, tape, at);
     match t {
         Token::Int { value: _, next } => End::At(next),
         Token::Bytes {
@@ -148,7 +147,8 @@ pub fn value(from: Source, bytes: &[u8], tape: &[u64], at: usize, depth: usize) 
                 let a = name(u);
                 match a {
                     End::At(p) => {
-                        let v = value(from, bytes, tape, p, depth - 1);
+                        let x = token_from(from, bytes, tape, p);
+                        let v = opened(from, bytes, tape, x, depth - 1);
                         match v {
                             End::At(q) => {
                                 let w = token_from(from, bytes, tape, q);
@@ -184,7 +184,7 @@ pub fn list(from: Source, bytes: &[u8], tape: &[u64], at: usize, depth: usize) -
                 return End::At(q);
             }
             End::Broken => {
-                let v = value(from, bytes, tape, i, depth);
+                let v = opened(from, bytes, tape, t, depth);
                 match v {
                     End::At(q) => {
                         i = q;
@@ -196,6 +196,22 @@ pub fn list(from: Source, bytes: &[u8], tape: &[u64], at: usize, depth: usize) -
             }
         }
     }
+}
+
+// The end of the value at at.
+pub fn value(from: Source, bytes: &[u8], tape: &[u64], at: usize, depth: usize) -> End
+    ensures { λ r. ⌜ r ≡ endOf (valueFrom from (now (bytes .entry)) (now (tape .entry)) depth at) ⌝ }
+{
+    let t = token_from(from, bytes, tape, at);
+    opened(from, bytes, tape, t, depth)
+}
+
+// The end of the value in bytes that the token t opens.
+pub fn opened_in(s: &[u8], t: Token, depth: usize) -> End
+    ensures { λ r. ⌜ r ≡ endOf (openedIn (now (s .entry)) depth t) ⌝ }
+{
+    let none = [0u64; 1];
+    opened(Source::Bytes, s, &none, t, depth)
 }
 
 // The end of the value at at in bytes.
