@@ -94,6 +94,14 @@ said s at B.Image = ended s at L.Image
 said s at B.Load = withHex (hexAt s at) (λ p len q. ended s q (L.Load p len))
 said s at B.Unknown = L.Bad Y.Word
 
+-- the first word begins with #
+unfoldable pub remarkIn : List ℕ → Found → Bool
+remarkIn s F.Nothing = false
+remarkIn s (F.At p e) = eqb (getD s p 0) 35
+
+abbrev pub remark : List ℕ → Bool
+remark s = remarkIn s (wordAt s 0)
+
 -- a line with no word, or whose first word begins with #, is passed over
 unfoldable pub lineIn : List ℕ → Found → Line
 lineIn s F.Nothing = L.Pass

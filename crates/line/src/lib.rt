@@ -10,7 +10,7 @@ ghost use mathlib.Core.Bool.{true};
 ghost use lib.ListN.{length};
 ghost use Rattle.token.specs.Write.{putAll};
 ghost use Rattle.line.specs.Number.{decimalOf};
-ghost use Rattle.line.specs.Line.{lineOf};
+ghost use Rattle.line.specs.Line.{lineOf, remark};
 ghost use Rattle.line.specs.Write.{hexText, bytesAt, putEnd};
 ghost use Rattle.line.specs.Laws.{ReadBack};
 
@@ -92,6 +92,21 @@ pub enum Form {
     Plain,
     Spelled,
     Meant,
+}
+
+// Whether a line is a remark, however long it is.
+pub fn is_remark(s: &[u8]) -> bool
+    ensures { λ r. ⌜ r ≡ remark (now (s .entry)) ⌝ }
+{
+    let w = words::word(s, 0);
+    match w {
+        Found::At(p, _) => {
+            return s[p] == b'#';
+        }
+        Found::Nothing => {
+            return false;
+        }
+    }
 }
 
 // What a line says.

@@ -1,0 +1,4 @@
+-- The definitions that the contracts of `desk` cite.
+pub mod Texts
+pub mod Desk
+pub mod Cut
