@@ -259,6 +259,9 @@ fn long_lines() {
         let answer = pocket.ask(&request(length));
         assert!(answer.starts_with("? "), "{answer}");
         assert_eq!(pocket.ask("read 0 1"), "disk");
+        // A remark has no answer, however long it is: the next one is the question's.
+        pocket.write(&format!("#{}\n", request(length)));
+        assert_eq!(pocket.ask("read 0 1"), "disk");
     }
     assert_eq!(pocket.ask("image"), image);
     pocket.end();
