@@ -3,27 +3,27 @@ use packet::Hsn;
 use packet::Tsn;
 use token::Put;
 
-pub const ADMIN_SP: u64 = 0x0000020500000001;
+pub(crate) const ADMIN_SP: u64 = 0x0000020500000001;
 
-pub const LOCKING_SP: u64 = 0x0000020500000002;
+pub(crate) const LOCKING_SP: u64 = 0x0000020500000002;
 
-pub const SID: u64 = 0x0000000900000006;
+pub(crate) const SID: u64 = 0x0000000900000006;
 
-pub const ADMIN1: u64 = 0x0000000900010001;
+pub(crate) const ADMIN1: u64 = 0x0000000900010001;
 
-pub const PIN_SID: u64 = 0x0000000b00000001;
+pub(crate) const PIN_SID: u64 = 0x0000000b00000001;
 
-pub const PIN_MSID: u64 = 0x0000000b00008402;
+pub(crate) const PIN_MSID: u64 = 0x0000000b00008402;
 
-pub const TPER_INFO: u64 = 0x0000020100030001;
+pub(crate) const TPER_INFO: u64 = 0x0000020100030001;
 
-pub const MBR_CONTROL: u64 = 0x0000080300000001;
+pub(crate) const MBR_CONTROL: u64 = 0x0000080300000001;
 
-pub const RANGE1: u64 = 0x0000080200030001;
+pub(crate) const RANGE1: u64 = 0x0000080200030001;
 
-pub const RANGE2: u64 = 0x0000080200030002;
+pub(crate) const RANGE2: u64 = 0x0000080200030002;
 
-pub const ACTIVATE: u64 = 0x0000000600000203;
+pub(crate) const ACTIVATE: u64 = 0x0000000600000203;
 
 const MANAGER: u64 = 0x00000000000000ff;
 
@@ -50,7 +50,7 @@ fn end(p: Put, at: usize) -> usize {
 }
 
 // A field of n bytes, whatever stands there.
-pub fn field(out: &mut [u8], at: usize, n: usize, v: u64) -> usize {
+pub(crate) fn field(out: &mut [u8], at: usize, n: usize, v: u64) -> usize {
     let p = token::put_number(out, at, n, v);
     end(p, at)
 }
@@ -126,7 +126,7 @@ fn whose(out: &mut [u8], at: usize, name: u64, who: u64) -> usize {
 }
 
 // A call with no parameters.
-pub fn bare(out: &mut [u8], object: u64, method: u64) -> usize {
+pub(crate) fn bare(out: &mut [u8], object: u64, method: u64) -> usize {
     let p = head(out, object, method);
     foot(out, p)
 }
@@ -140,20 +140,20 @@ fn wanted(out: &mut [u8], hsn: u64, sp: u64) -> usize {
 }
 
 // A StartSession with no options.
-pub fn start(out: &mut [u8], hsn: u64, sp: u64) -> usize {
+pub(crate) fn start(out: &mut [u8], hsn: u64, sp: u64) -> usize {
     let p = wanted(out, hsn, sp);
     foot(out, p)
 }
 
 // A StartSession as an authority, with its PIN.
-pub fn start_as(out: &mut [u8], hsn: u64, sp: u64, who: u64, pin: &[u8]) -> usize {
+pub(crate) fn start_as(out: &mut [u8], hsn: u64, sp: u64, who: u64, pin: &[u8]) -> usize {
     let p = wanted(out, hsn, sp);
     let q = named(out, p, 0, pin);
     let r = whose(out, q, 3, who);
     foot(out, r)
 }
 
-pub fn authenticate(out: &mut [u8], who: u64, pin: &[u8]) -> usize {
+pub(crate) fn authenticate(out: &mut [u8], who: u64, pin: &[u8]) -> usize {
     let p = head(out, THIS_SP, AUTHENTICATE);
     let q = uid(out, p, who);
     let r = named(out, q, 0, pin);
@@ -161,7 +161,7 @@ pub fn authenticate(out: &mut [u8], who: u64, pin: &[u8]) -> usize {
 }
 
 // A Get of the columns first to last.
-pub fn get(out: &mut [u8], object: u64, first: u64, last: u64) -> usize {
+pub(crate) fn get(out: &mut [u8], object: u64, first: u64, last: u64) -> usize {
     let p = head(out, object, GET);
     let q = control(out, p, 0xf0);
     let r = cell(out, q, 3, first);
@@ -186,14 +186,14 @@ fn set_foot(out: &mut [u8], at: usize) -> usize {
 }
 
 // A Set of one column.
-pub fn set(out: &mut [u8], object: u64, column: u64, v: u64) -> usize {
+pub(crate) fn set(out: &mut [u8], object: u64, column: u64, v: u64) -> usize {
     let p = set_head(out, object);
     let q = cell(out, p, column, v);
     set_foot(out, q)
 }
 
 // A Set of a range's start and length.
-pub fn span(out: &mut [u8], range: u64, start: u64, count: u64) -> usize {
+pub(crate) fn span(out: &mut [u8], range: u64, start: u64, count: u64) -> usize {
     let p = set_head(out, range);
     let q = cell(out, p, 3, start);
     let r = cell(out, q, 4, count);
@@ -201,7 +201,7 @@ pub fn span(out: &mut [u8], range: u64, start: u64, count: u64) -> usize {
 }
 
 // The same with the length first.
-pub fn span_back(out: &mut [u8], range: u64, start: u64, count: u64) -> usize {
+pub(crate) fn span_back(out: &mut [u8], range: u64, start: u64, count: u64) -> usize {
     let p = set_head(out, range);
     let q = cell(out, p, 4, count);
     let r = cell(out, q, 3, start);
@@ -209,20 +209,20 @@ pub fn span_back(out: &mut [u8], range: u64, start: u64, count: u64) -> usize {
 }
 
 // A control token alone, as FA.
-pub fn one(out: &mut [u8], code: u8) -> usize {
+pub(crate) fn one(out: &mut [u8], code: u8) -> usize {
     let p = control(out, HEADER, code);
     length(p)
 }
 
 // A control token and its number, as FB 00.
-pub fn pair(out: &mut [u8], code: u8, v: u64) -> usize {
+pub(crate) fn pair(out: &mut [u8], code: u8, v: u64) -> usize {
     let p = control(out, HEADER, code);
     let q = int(out, p, v);
     length(q)
 }
 
 // The envelope around a payload of n bytes; the whole length.
-pub fn sealed(out: &mut [u8], tsn: Tsn, hsn: Hsn, n: usize) -> usize {
+pub(crate) fn sealed(out: &mut [u8], tsn: Tsn, hsn: Hsn, n: usize) -> usize {
     let p = packet::seal(out, tsn, hsn, n);
     end(p, 0)
 }

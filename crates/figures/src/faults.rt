@@ -74,7 +74,7 @@ fn hidden() {
     host::gets(b"column 3 of C_PIN_MSID", c, ask::PIN_MSID, 3, 3);
 }
 
-pub fn run() {
+pub(crate) fn run() {
     say::text(b"Admin1 again\n");
     let a = wrap(rows::placed());
     whole_row(a);

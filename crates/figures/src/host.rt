@@ -7,22 +7,22 @@ use packet::Opened;
 use packet::Tsn;
 
 // What a buffer holds before the card writes to it.
-pub const FILL: u8 = 0xee;
+pub(crate) const FILL: u8 = 0xee;
 
 // A PIN of 32 bytes: the card's MSID.
-pub fn msid() -> [u8; 32] {
+pub(crate) fn msid() -> [u8; 32] {
     *b"a PIN of thirty-two bytes is one"
 }
 
 // The factory's card with n sectors.
-pub fn factory(n: u64) -> Card {
+pub(crate) fn factory(n: u64) -> Card {
     let pin = msid();
     let o = record::factory(n, &pin);
     o.card
 }
 
 // A StartSession with HSN 105 and no options, whole.
-pub fn request() -> [u8; 96] {
+pub(crate) fn request() -> [u8; 96] {
     let mut q = [0u8; 96];
     let n = ask::start(&mut q, 105, ask::ADMIN_SP);
     ask::sealed(&mut q, Tsn(0), Hsn(0), n);
@@ -30,7 +30,7 @@ pub fn request() -> [u8; 96] {
 }
 
 // Whether s holds the fill from byte first on.
-pub fn untouched(s: &[u8], first: usize) -> bool {
+pub(crate) fn untouched(s: &[u8], first: usize) -> bool {
     let mut i = 0;
     while i < s.len() {
         if first <= i {
@@ -73,7 +73,7 @@ fn came(number: u8, answer: &[u8]) {
 }
 
 // Sends the payload of n bytes with this TSN and HSN.
-pub fn sends(what: &[u8], card: Card, q: &mut [u8], tsn: Tsn, hsn: Hsn, n: usize) -> Card {
+pub(crate) fn sends(what: &[u8], card: Card, q: &mut [u8], tsn: Tsn, hsn: Hsn, n: usize) -> Card {
     let mut answer = [FILL; 2048];
     ask::sealed(q, tsn, hsn, n);
     let o = card::command(card, q, &mut answer);
@@ -90,83 +90,83 @@ fn asks(what: &[u8], card: Card, q: &mut [u8], n: usize) -> Card {
     sends(what, card, q, s.tsn, s.hsn, n)
 }
 
-pub fn starts(what: &[u8], card: Card, sp: u64) -> Card {
+pub(crate) fn starts(what: &[u8], card: Card, sp: u64) -> Card {
     let mut q = [0u8; 256];
     let n = ask::start(&mut q, 105, sp);
     asks(what, card, &mut q, n)
 }
 
 // A StartSession with an authority and the MSID as its PIN.
-pub fn starts_as(what: &[u8], card: Card, sp: u64, who: u64) -> Card {
+pub(crate) fn starts_as(what: &[u8], card: Card, sp: u64, who: u64) -> Card {
     let mut q = [0u8; 256];
     let pin = msid();
     let n = ask::start_as(&mut q, 105, sp, who, &pin);
     asks(what, card, &mut q, n)
 }
 
-pub fn proves(what: &[u8], card: Card, who: u64, pin: &[u8]) -> Card {
+pub(crate) fn proves(what: &[u8], card: Card, who: u64, pin: &[u8]) -> Card {
     let mut q = [0u8; 256];
     let n = ask::authenticate(&mut q, who, pin);
     asks(what, card, &mut q, n)
 }
 
-pub fn calls(what: &[u8], card: Card, object: u64, method: u64) -> Card {
+pub(crate) fn calls(what: &[u8], card: Card, object: u64, method: u64) -> Card {
     let mut q = [0u8; 256];
     let n = ask::bare(&mut q, object, method);
     asks(what, card, &mut q, n)
 }
 
-pub fn gets(what: &[u8], card: Card, object: u64, first: u64, last: u64) -> Card {
+pub(crate) fn gets(what: &[u8], card: Card, object: u64, first: u64, last: u64) -> Card {
     let mut q = [0u8; 256];
     let n = ask::get(&mut q, object, first, last);
     asks(what, card, &mut q, n)
 }
 
-pub fn sets(what: &[u8], card: Card, object: u64, column: u64, v: u64) -> Card {
+pub(crate) fn sets(what: &[u8], card: Card, object: u64, column: u64, v: u64) -> Card {
     let mut q = [0u8; 256];
     let n = ask::set(&mut q, object, column, v);
     asks(what, card, &mut q, n)
 }
 
-pub fn spans(what: &[u8], card: Card, range: u64, start: u64, count: u64) -> Card {
+pub(crate) fn spans(what: &[u8], card: Card, range: u64, start: u64, count: u64) -> Card {
     let mut q = [0u8; 256];
     let n = ask::span(&mut q, range, start, count);
     asks(what, card, &mut q, n)
 }
 
-pub fn spans_back(what: &[u8], card: Card, range: u64, start: u64, count: u64) -> Card {
+pub(crate) fn spans_back(what: &[u8], card: Card, range: u64, start: u64, count: u64) -> Card {
     let mut q = [0u8; 256];
     let n = ask::span_back(&mut q, range, start, count);
     asks(what, card, &mut q, n)
 }
 
-pub fn ends(card: Card) -> Card {
+pub(crate) fn ends(card: Card) -> Card {
     let mut q = [0u8; 256];
     let n = ask::one(&mut q, 0xfa);
     asks(b"end of session", card, &mut q, n)
 }
 
 // A control token and its number.
-pub fn pairs(what: &[u8], card: Card, code: u8, v: u64) -> Card {
+pub(crate) fn pairs(what: &[u8], card: Card, code: u8, v: u64) -> Card {
     let mut q = [0u8; 256];
     let n = ask::pair(&mut q, code, v);
     asks(what, card, &mut q, n)
 }
 
-pub fn begins(card: Card) -> Card {
+pub(crate) fn begins(card: Card) -> Card {
     pairs(b"start of a transaction", card, 0xfb, 0)
 }
 
-pub fn commits(card: Card) -> Card {
+pub(crate) fn commits(card: Card) -> Card {
     pairs(b"the transaction committed", card, 0xfc, 0)
 }
 
-pub fn abandons(card: Card) -> Card {
+pub(crate) fn abandons(card: Card) -> Card {
     pairs(b"the transaction abandoned", card, 0xfc, 1)
 }
 
 // A session to the Admin SP with SID proved.
-pub fn as_sid(card: Card) -> Card {
+pub(crate) fn as_sid(card: Card) -> Card {
     starts_as(
         b"StartSession to Admin as SID with the MSID",
         card,
@@ -176,7 +176,7 @@ pub fn as_sid(card: Card) -> Card {
 }
 
 // A session to the Locking SP with Admin1 proved, after an Activate by SID.
-pub fn as_admin1(card: Card) -> Card {
+pub(crate) fn as_admin1(card: Card) -> Card {
     let a = as_sid(card);
     let b = calls(
         b"SID activates the Locking SP",

@@ -55,7 +55,7 @@ fn put(k: usize, start: u64, length: u64, n: u64) {
     }
 }
 
-pub fn said(v: Verdict) {
+pub(crate) fn said(v: Verdict) {
     match v {
         Verdict::Disk => {
             say::text(b" is from disk\n");
@@ -82,7 +82,7 @@ fn transfer(rows: [Row; ROWS], mbr: Mbr, write: bool, start: u64, count: u64) {
     said(v);
 }
 
-pub fn run() {
+pub(crate) fn run() {
     let most = 18446744073709551615;
     say::text(b"Range 2 beside range 1\n");
     put(2, 1100, 1, 1000000);

@@ -201,7 +201,7 @@ fn lowest(card: Card) {
     hears(card, &junk);
 }
 
-pub fn run() {
+pub(crate) fn run() {
     let card = host::factory(1000000);
     let good = host::request();
     let long = longest();

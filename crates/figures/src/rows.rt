@@ -7,7 +7,7 @@ use model::Card;
 use model::Ruling;
 
 // A media question and its answer.
-pub fn reads(card: Card, start: u64, count: u64) {
+pub(crate) fn reads(card: Card, start: u64, count: u64) {
     say::text(b"  a read of ");
     say::number(count);
     say::text(b" at ");
@@ -24,7 +24,7 @@ pub fn reads(card: Card, start: u64, count: u64) {
 }
 
 // Admin1's session with range 1 placed.
-pub fn placed() -> Card {
+pub(crate) fn placed() -> Card {
     let a = host::as_admin1(host::factory(1000000));
     host::spans(b"range 1 at 1,000 for 100", a, ask::RANGE1, 1000, 100)
 }
@@ -57,7 +57,7 @@ fn shadow(card: Card) {
     reads(b, 262143, 2);
 }
 
-pub fn run() {
+pub(crate) fn run() {
     say::text(b"Range 2 beside range 1, through the card\n");
     let card = beside(placed());
     say::text(b"Shadow on, through the card\n");

@@ -1,14 +1,14 @@
 // What the figures are printed with.
 
-pub fn text(s: &[u8]) {
+pub(crate) fn text(s: &[u8]) {
     io::write_all(1, s);
 }
 
-pub fn number(v: u64) {
+pub(crate) fn number(v: u64) {
     io::print_decimal(1, v);
 }
 
-pub fn size(v: usize) {
+pub(crate) fn size(v: usize) {
     io::print_decimal(1, v as u64);
 }
 
@@ -18,7 +18,7 @@ fn byte(b: u8) {
 }
 
 // The n bytes of s from byte first on, or those that are there.
-pub fn part(s: &[u8], first: usize, n: usize) {
+pub(crate) fn part(s: &[u8], first: usize, n: usize) {
     let mut i = 0;
     while i < s.len() {
         if first <= i {
@@ -31,11 +31,11 @@ pub fn part(s: &[u8], first: usize, n: usize) {
 }
 
 // The first n bytes of s, or all where it has fewer.
-pub fn some(s: &[u8], n: usize) {
+pub(crate) fn some(s: &[u8], n: usize) {
     part(s, 0, n);
 }
 
-pub fn hex(s: &[u8]) {
+pub(crate) fn hex(s: &[u8]) {
     if s.len() == 0 {
         text(b"nothing ");
     }

@@ -55,7 +55,7 @@ fn ended(card: Card) -> Card {
     exchange(card, &q)
 }
 
-pub fn run() {
+pub(crate) fn run() {
     say::text(
         b"The card's own answers: StartSession with HSN 105 and no options, the end of that session, and the end again\n",
     );

@@ -6,13 +6,13 @@ use model::Tables;
 use packet::Hsn;
 use packet::Tsn;
 
-pub fn sectors(card: Card, n: u64) -> Card {
+pub(crate) fn sectors(card: Card, n: u64) -> Card {
     let mut x = card;
     x.cells.n = n;
     x
 }
 
-pub fn tries(card: Card, n: u8) -> Card {
+pub(crate) fn tries(card: Card, n: u8) -> Card {
     let mut x = card;
     let mut c = x.cells;
     let mut pins = c.pins;
@@ -22,7 +22,7 @@ pub fn tries(card: Card, n: u8) -> Card {
     x
 }
 
-pub fn next(card: Card, tsn: u32) -> Card {
+pub(crate) fn next(card: Card, tsn: u32) -> Card {
     let mut x = card;
     let mut c = x.cells;
     let t = Tsn(tsn);
@@ -31,12 +31,12 @@ pub fn next(card: Card, tsn: u32) -> Card {
     x
 }
 
-pub fn session(card: Card) -> Session {
+pub(crate) fn session(card: Card) -> Session {
     let c = card.cells;
     c.session
 }
 
-pub fn with_session(card: Card, s: Session) -> Card {
+pub(crate) fn with_session(card: Card, s: Session) -> Card {
     let mut x = card;
     let mut c = x.cells;
     c.session = s;
@@ -44,7 +44,7 @@ pub fn with_session(card: Card, s: Session) -> Card {
     x
 }
 
-pub fn numbered(card: Card, tsn: u32, hsn: u32) -> Card {
+pub(crate) fn numbered(card: Card, tsn: u32, hsn: u32) -> Card {
     let mut s = session(card);
     let t = Tsn(tsn);
     let h = Hsn(hsn);
@@ -53,7 +53,7 @@ pub fn numbered(card: Card, tsn: u32, hsn: u32) -> Card {
     with_session(card, s)
 }
 
-pub fn proving(card: Card, r: usize) -> Card {
+pub(crate) fn proving(card: Card, r: usize) -> Card {
     let mut s = session(card);
     if r < 13 {
         s.proved[r] = true;
@@ -61,24 +61,24 @@ pub fn proving(card: Card, r: usize) -> Card {
     with_session(card, s)
 }
 
-pub fn to_locking(card: Card) -> Card {
+pub(crate) fn to_locking(card: Card) -> Card {
     let mut s = session(card);
     s.locking = true;
     with_session(card, s)
 }
 
-pub fn live(card: Card) -> Tables {
+pub(crate) fn live(card: Card) -> Tables {
     let c = card.cells;
     c.tables
 }
 
-pub fn kept(card: Card) -> Tables {
+pub(crate) fn kept(card: Card) -> Tables {
     let c = card.cells;
     let u = c.undo;
     u.was
 }
 
-pub fn with_live(card: Card, t: Tables) -> Card {
+pub(crate) fn with_live(card: Card, t: Tables) -> Card {
     let mut x = card;
     let mut c = x.cells;
     c.tables = t;
@@ -86,7 +86,7 @@ pub fn with_live(card: Card, t: Tables) -> Card {
     x
 }
 
-pub fn with_kept(card: Card, t: Tables) -> Card {
+pub(crate) fn with_kept(card: Card, t: Tables) -> Card {
     let mut x = card;
     let mut c = x.cells;
     let mut u = c.undo;
@@ -98,19 +98,19 @@ pub fn with_kept(card: Card, t: Tables) -> Card {
 
 // ---- to the tables
 
-pub fn active(t: Tables, on: bool) -> Tables {
+pub(crate) fn active(t: Tables, on: bool) -> Tables {
     let mut x = t;
     x.active = on;
     x
 }
 
-pub fn sid(t: Tables, on: bool) -> Tables {
+pub(crate) fn sid(t: Tables, on: bool) -> Tables {
     let mut x = t;
     x.enabled[0] = on;
     x
 }
 
-pub fn row(t: Tables, k: usize, start: u64, length: u64) -> Tables {
+pub(crate) fn row(t: Tables, k: usize, start: u64, length: u64) -> Tables {
     let mut x = t;
     if k < 5 {
         x.rows[k].start = start;
@@ -122,7 +122,7 @@ pub fn row(t: Tables, k: usize, start: u64, length: u64) -> Tables {
 // ---- to a PIN
 
 // A PIN of this length with one byte 31.
-pub fn secret(len: u8, last: u8) -> Secret {
+pub(crate) fn secret(len: u8, last: u8) -> Secret {
     let mut bytes = [0; 32];
     bytes[31] = last;
     Secret {
@@ -131,7 +131,7 @@ pub fn secret(len: u8, last: u8) -> Secret {
     }
 }
 
-pub fn live_pin(card: Card, s: Secret) -> Card {
+pub(crate) fn live_pin(card: Card, s: Secret) -> Card {
     let mut x = card;
     let mut v = x.vault;
     v.live[12] = s;
@@ -139,7 +139,7 @@ pub fn live_pin(card: Card, s: Secret) -> Card {
     x
 }
 
-pub fn kept_pin(card: Card, s: Secret) -> Card {
+pub(crate) fn kept_pin(card: Card, s: Secret) -> Card {
     let mut x = card;
     let mut v = x.vault;
     v.kept[12] = s;

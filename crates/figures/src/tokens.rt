@@ -70,7 +70,7 @@ fn bytes(s: &[u8]) {
     wrote(p, &buf);
 }
 
-pub fn run() {
+pub(crate) fn run() {
     say::text(b"Tokens read\n");
     read(b"\x3f");
     read(b"\x40");

@@ -233,7 +233,7 @@ fn alone(card: Card) {
     none_kept(card);
 }
 
-pub fn run() {
+pub(crate) fn run() {
     say::text(b"Number 1: sound records, to be changed\n");
     let sid = host::as_sid(host::factory(1000000));
     let ready = host::sets(b"TPER_RESET enabled", sid, ask::TPER_INFO, 8, 1);

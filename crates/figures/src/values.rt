@@ -61,7 +61,7 @@ fn again(s: &[u8], out: &mut [u8]) {
     written(p, out);
 }
 
-pub fn run() {
+pub(crate) fn run() {
     say::text(b"Values\n");
     ends(b"\xf0\xf1");
     ends(b"\xf0\x01\xf2\x03\xa1a\xf3\xf1");
