@@ -2,3 +2,4 @@
 pub mod Histories
 pub mod Speaks
 pub mod Edges
+pub mod Parameters

@@ -3,3 +3,4 @@ pub mod Worked
 pub mod Wrong
 pub mod Speaks
 pub mod Edges
+pub mod Parameters
