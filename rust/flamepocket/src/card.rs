@@ -1,5 +1,6 @@
 //! The card and what is asked of it.
 
+use std::fmt;
 use std::ops::Deref;
 
 use crate::ffi;
@@ -8,8 +9,8 @@ use crate::refusal::Refusal;
 /// The least room of an answer buffer, and the most that an answer takes.
 pub const ANSWER_ROOM: usize = 2048;
 
-/// A card with a sound record.
-#[derive(Clone, PartialEq, Eq, Debug)]
+/// A card with a sound record. Printed by `{:?}` it shows its length alone, since the record holds the PINs.
+#[derive(Clone, PartialEq, Eq)]
 pub struct Card {
     image: Vec<u8>,
 }
@@ -77,26 +78,26 @@ impl Card {
     /// ```
     /// use flamepocket::{Card, Refusal};
     ///
-    /// // The end of session TSN 1, HSN 105: "00 00 00 00 10 00 .. FA 00 00 00".
-    /// let mut request = [0; 60];
-    /// request[4] = 0x10;
-    /// request[19] = 40;
-    /// request[23] = 1;
-    /// request[27] = 105;
-    /// request[43] = 16;
-    /// request[55] = 1;
-    /// request[56] = 0xFA;
+    /// // StartSession to the Admin SP for host session 105: ComPacket, Packet and Subpacket around the call.
+    /// let call = [
+    ///     0xF8, 0xA8, 0, 0, 0, 0, 0, 0, 0, 0xFF, 0xA8, 0, 0, 0, 0, 0, 0, 0xFF, 0x02, // the session manager's StartSession
+    ///     0xF0, 0x81, 105, 0xA8, 0, 0, 2, 5, 0, 0, 0, 1, 1, 0xF1, // host session, Admin SP, Write
+    ///     0xF9, 0xF0, 0, 0, 0, 0xF1,
+    /// ];
+    /// let mut request = vec![0; 56];
+    /// request[4] = 0x10; // ComID 1000 hex
+    /// request[19] = 24 + 12 + 40; // lengths: the call has 39 bytes and 1 of pad
+    /// request[43] = 12 + 40;
+    /// request[55] = 39;
+    /// request.extend(call);
+    /// request.push(0);
     ///
     /// let mut card = Card::factory(1_000_000, &[b'm'; 32])?;
-    /// assert_eq!(card.command(&request).err(), Some(Refusal::Session));
+    /// let answer = card.command(&request)?;
+    /// assert_eq!(answer.len(), 88); // SyncSession
+    /// assert_eq!(answer[75..79], [0xF0, 0x81, 105, 1]); // the host's number and the card's: TSN 1
     ///
-    /// // With such a session open, the answer is the same 60 bytes.
-    /// let mut image = card.image().to_vec();
-    /// image[179] = 1;
-    /// image[184] = 1;
-    /// image[188] = 105;
-    /// let mut card = Card::from_image(&image)?;
-    /// assert_eq!(card.command(&request)?[..], request);
+    /// assert_eq!(card.command(&request[..95]).err(), Some(Refusal::Envelope)); // cut short
     /// # Ok::<(), Refusal>(())
     /// ```
     pub fn command(&mut self, request: &[u8]) -> Result<Answer, Refusal> {
@@ -184,6 +185,12 @@ impl Card {
             3 => Ok(Verdict::Refused),
             number => Err(Refusal::from_number(number)),
         }
+    }
+}
+
+impl fmt::Debug for Card {
+    fn fmt(&self, out: &mut fmt::Formatter<'_>) -> fmt::Result {
+        write!(out, "Card({} bytes)", self.image.len())
     }
 }
 

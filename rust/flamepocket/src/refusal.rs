@@ -3,8 +3,9 @@
 use std::error::Error;
 use std::fmt;
 
-/// The numbers of "What comes back" other than 0. With any of them nothing has changed.
+/// The numbers other than 0 that come back. With any of them nothing has changed. Later cards may have more of them.
 #[derive(Clone, Copy, PartialEq, Eq, Hash, Debug)]
+#[non_exhaustive]
 pub enum Refusal {
     Unsound = 1,
     AnswerRoom = 2,

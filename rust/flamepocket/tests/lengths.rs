@@ -48,3 +48,9 @@ fn numbers_of_the_refusals() {
     let numbers: Vec<u8> = Refusal::ALL.iter().map(|refusal| refusal.number()).collect();
     assert_eq!(numbers, [1, 2, 3, 4, 5, 6, 7]);
 }
+
+#[test]
+fn a_printed_card_shows_no_pin() {
+    let printed = format!("{:?}", Card::factory(1_000_000, &MSID));
+    assert_eq!(printed, "Ok(Card(1188 bytes))");
+}
