@@ -6,3 +6,4 @@ pub mod Edits
 pub mod Owners
 pub mod Shares
 pub mod Verdicts
+pub mod Chain

@@ -7,3 +7,4 @@ pub mod Owner
 pub mod Media
 pub mod Reset
 pub mod Laws
+pub mod Exact

@@ -11,6 +11,7 @@ ghost use Rattle.ranges.specs.Owner.{ownerOf};
 ghost use Rattle.ranges.specs.Media.{barredB, clearB, shadowed, shadowOf, mediaOf};
 ghost use Rattle.ranges.specs.Reset.{resetRows, resetMbr};
 ghost use Rattle.ranges.specs.Laws.{FitDecided, FitKept, OneOwner, Shares, ClearDecided};
+ghost use Rattle.ranges.specs.Exact.{MediaAsSaid};
 
 // The global range and the others. `rowCount` of specs/Row.antt is the same number.
 pub const ROWS: usize = 5;
@@ -449,4 +450,9 @@ pub fn law_shares()
 // A transfer is clear exactly if each touched sector's owner lets it pass.
 pub fn law_clear()
     ensures { λ _. ⌜ ClearDecided ⌝ }
+{}
+
+// The media's verdict is the first of document 01's chain that applies.
+pub fn law_media()
+    ensures { λ _. ⌜ MediaAsSaid ⌝ }
 {}
