@@ -3,3 +3,4 @@ pub mod Names
 pub mod Columns
 pub mod Params
 pub mod Steps
+pub mod Exact

@@ -14,6 +14,7 @@ ghost use Rattle.params.specs.Columns.{free, good, shaped, putColumn, pu
 ghost use Rattle.params.specs.Steps.{firstOf, takenOf};
 ghost use Rattle.params.specs.declared.Shape.the-variants.{Good};
 ghost use Rattle.params.specs.Params.{noBlock, noColumns, noStart, noProof, blockOf, blockIn, getOf, setOf, startFrom, startOf, proofFrom, proofOf, resetsAt};
+ghost use Rattle.params.specs.Exact.{ParametersAsSaid};
 
 // How many columns a table has at the most. `columnCount` of specs/Columns.antt is the same number.
 pub const COLUMNS: usize = 20;
@@ -549,3 +550,8 @@ pub fn reset_set(s: &[u8], at: usize) -> Resets
     }
     Resets::Broken
 }
+
+// Exactly which values are the parameters of each method, and what is read from them.
+pub fn law_parameters()
+    ensures { λ _. ⌜ ParametersAsSaid ⌝ }
+{}
