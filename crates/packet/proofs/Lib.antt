@@ -1,3 +1,5 @@
 pub mod Envelope
 pub mod Writes
 pub mod Round
+pub mod Fields
+pub mod Bytes

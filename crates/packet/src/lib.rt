@@ -7,6 +7,7 @@ ghost use lib.ListN.{length, drop};
 ghost use Rattle.token.specs.Bytes.{beOf, numberAt, over};
 ghost use Rattle.packet.specs.Envelope.{padOf, openedOf, header, sealEnd, sealAll};
 ghost use Rattle.packet.specs.Laws.{ReadBack, Inside, Padded};
+ghost use Rattle.packet.specs.Exact.{FieldsAsSaid};
 
 // The card's number of a session. Not the host's: the two are types of their own, so that a swap does not compile.
 pub struct Tsn(pub u32);
@@ -136,4 +137,9 @@ pub fn law_inside()
 // There are 0 to 3 pad bytes, up to a multiple of 4.
 pub fn law_pad()
     ensures { λ _. ⌜ Padded ⌝ }
+{}
+
+// The envelope field by field: exactly what is opened, and every byte that is written.
+pub fn law_fields()
+    ensures { λ _. ⌜ FieldsAsSaid ⌝ }
 {}
