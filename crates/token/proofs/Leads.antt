@@ -42,15 +42,15 @@ there L.Control = refl
 there L.Empty = refl
 there L.Broken = refl
 
-abbrev same : Lead → Lead → Bool
+abbrev pub same : Lead → Lead → Bool
 same x y = eqb (code x .0) (code y .0) && eqb (code x .1) (code y .1)
 
-both : (a b : Bool) → T (a && b) → T a × T b
+pub both : (a b : Bool) → T (a && b) → T a × T b
 both true true h = (tt, tt)
 both true false h = absurd h
 both false b h = absurd h
 
-same-is : (x y : Lead) → T (same x y) → x ≡ y
+pub same-is : (x y : Lead) → T (same x y) → x ≡ y
 same-is x y h =
     let k = both (eqb (code x .0) (code y .0)) (eqb (code x .1) (code y .1)) h in
     let p = eqb→eq (code x .0) (code y .0) (k .0) in
@@ -148,7 +148,7 @@ unfolding leadOf within isControl
 gap-fd b h k q =
     simp (ne-eqb (b - 0xfd) 2 (λ e. q (omega arith))) at (says 0xfd 3 (λ n. cond (eqb n 2) L.Empty L.Broken) tt b h (omega arith))
 
-is-true : (t : Bool) → T t → t ≡ true
+pub is-true : (t : Bool) → T t → t ≡ true
 is-true true h = refl
 is-true false h = absurd h
 

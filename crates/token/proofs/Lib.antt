@@ -9,3 +9,6 @@ pub mod Forms
 pub mod Round
 pub mod Least
 pub mod Numbers
+pub mod Table
+pub mod Taken
+pub mod Only

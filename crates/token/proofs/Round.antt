@@ -3,7 +3,7 @@ use Prim.Native.Nat.{ℕ, suc, _+_, _-_, _*_, _/_, _%_, _^_, _≤_, _<_}
 use mathlib.Core.Path.{_≡_, refl, sym, _∙_}
 use mathlib.Core.List.{List, _∷_, _++_, append-assoc}
 use mathlib.Core.Bool.{Bool, true, false, _&&_, _||_}
-use mathlib.Core.Logic.{⊎-elim}
+use mathlib.Core.Logic.{_⊎_, inl, inr, ⊎-elim}
 use native.Mathlib.Omega.{arith}
 use native.Mathlib.Nat.{div-lt-iff-lt-mul, div-add-mod', div-div-eq-div-mul}
 use lib.ListN.{length, take, drop, length-append}
@@ -31,23 +31,23 @@ long-size n =
 
 -- ---- the token at the head of a list, by what its first byte says
 module _ (p b : ℕ) (r : List ℕ) where
-  is-tiny : leadOf b ≡ L.Tiny → tokenOf p (b ∷ r) ≡ K.Int b (p + 1)
+  pub is-tiny : leadOf b ≡ L.Tiny → tokenOf p (b ∷ r) ≡ K.Int b (p + 1)
   unfolding tokenOf formOf
   is-tiny e = rw e
 
-  is-short : (k : Bool) (n : ℕ) → leadOf b ≡ L.Short k n → tokenOf p (b ∷ r) ≡ atomOf k n (p + 1) r
+  pub is-short : (k : Bool) (n : ℕ) → leadOf b ≡ L.Short k n → tokenOf p (b ∷ r) ≡ atomOf k n (p + 1) r
   unfolding tokenOf formOf
   is-short k n e = rw e
 
-  is-control : leadOf b ≡ L.Control → tokenOf p (b ∷ r) ≡ K.Control b (p + 1)
+  pub is-control : leadOf b ≡ L.Control → tokenOf p (b ∷ r) ≡ K.Control b (p + 1)
   unfolding tokenOf formOf
   is-control e = rw e
 
-  is-medium : (k : Bool) (h x : ℕ) → leadOf b ≡ L.Medium k h → tokenOf p (b ∷ x ∷ r) ≡ atomOf k (h * 256 + x) (p + 1 + 1) r
+  pub is-medium : (k : Bool) (h x : ℕ) → leadOf b ≡ L.Medium k h → tokenOf p (b ∷ x ∷ r) ≡ atomOf k (h * 256 + x) (p + 1 + 1) r
   unfolding tokenOf formOf mediumOf
   is-medium k h x e = rw e
 
-  is-long : (k : Bool) (x y z : ℕ) → leadOf b ≡ L.Long k → tokenOf p (b ∷ x ∷ y ∷ z ∷ r) ≡ atomOf k (x * 65536 + y * 256 + z) (p + 1 + 3) r
+  pub is-long : (k : Bool) (x y z : ℕ) → leadOf b ≡ L.Long k → tokenOf p (b ∷ x ∷ y ∷ z ∷ r) ≡ atomOf k (x * 65536 + y * 256 + z) (p + 1 + 3) r
   unfolding tokenOf formOf longOf
   is-long k x y z e = rw e
 
@@ -109,13 +109,21 @@ range lo hi b = go (leb lo b) (leb b hi) refl refl
     go true false d e h = absurd (let z : _≡_ {A = Bool} false true = h in let y : _≡_ {A = ℕ} 0 1 = cc in omega arith)
     go false u d e h = absurd (let z : _≡_ {A = Bool} false true = h in let y : _≡_ {A = ℕ} 0 1 = cc in omega arith)
 
-pub lead-control : (b : ℕ) → isControl b ≡ true → leadOf b ≡ L.Control
+-- which control tokens there are
+pub control-range : (b : ℕ) → isControl b ≡ true → ((0xf0 ≤ b) × (b ≤ 0xf3)) ⊎ ((0xf8 ≤ b) × (b ≤ 0xfc))
 unfolding isControl
-lead-control b = go (within 0xf0 0xf3 b) refl
+control-range b = go (within 0xf0 0xf3 b) refl
   where
-    go : (t : Bool) → within 0xf0 0xf3 b ≡ t → (t || within 0xf8 0xfc b) ≡ true → leadOf b ≡ L.Control
-    go true e h = control-low b (range 0xf0 0xf3 b e .0) (range 0xf0 0xf3 b e .1)
-    go false e h = control-high b (range 0xf8 0xfc b h .0) (range 0xf8 0xfc b h .1)
+    go : (t : Bool) → within 0xf0 0xf3 b ≡ t → (t || within 0xf8 0xfc b) ≡ true → ((0xf0 ≤ b) × (b ≤ 0xf3)) ⊎ ((0xf8 ≤ b) × (b ≤ 0xfc))
+    go true e h = inl (range 0xf0 0xf3 b e)
+    go false e h = inr (range 0xf8 0xfc b h)
+
+pub range-control : (b : ℕ) → ((0xf0 ≤ b) × (b ≤ 0xf3)) ⊎ ((0xf8 ≤ b) × (b ≤ 0xfc)) → leadOf b ≡ L.Control
+range-control b (inl h) = control-low b (h .0) (h .1)
+range-control b (inr h) = control-high b (h .0) (h .1)
+
+pub lead-control : (b : ℕ) → isControl b ≡ true → leadOf b ≡ L.Control
+lead-control b h = range-control b (control-range b h)
 
 pub read-control : (b p : ℕ) (r : List ℕ) → isControl b ≡ true → tokenOf p (b ∷ r) ≡ K.Control b (p + 1)
 read-control b p r h = is-control p b r (lead-control b h)

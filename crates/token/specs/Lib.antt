@@ -3,3 +3,4 @@ pub mod Bytes
 pub mod Token
 pub mod Write
 pub mod Laws
+pub mod Exact

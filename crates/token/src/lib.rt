@@ -9,6 +9,7 @@ ghost use Rattle.token.specs.Bytes.{beVal, numberAt, beOf, over};
 ghost use Rattle.token.specs.Token.{isControl, leadOf, atomOf, tokenAt};
 ghost use Rattle.token.specs.Write.{sizeOf, encInt, headOf, encBytes, maxBytes, putEnd, putAll};
 ghost use Rattle.token.specs.Laws.{ReadBack, Shortest, Inside, Skipped};
+ghost use Rattle.token.specs.Exact.{FirstByte, TokensAsSaid};
 
 // What the first byte says.
 pub enum Lead {
@@ -389,4 +390,14 @@ pub fn law_inside()
 // An empty token in front changes nothing but the places.
 pub fn law_skipped()
     ensures { λ _. ⌜ Skipped ⌝ }
+{}
+
+// The first byte as 256 rows.
+pub fn law_first_byte()
+    ensures { λ _. ⌜ FirstByte ⌝ }
+{}
+
+// Exactly which bytes are which token.
+pub fn law_tokens()
+    ensures { λ _. ⌜ TokensAsSaid ⌝ }
 {}
