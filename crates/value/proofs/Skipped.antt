@@ -12,14 +12,14 @@ use Rattle.token.specs.declared.Token.the-variants as K
 use Rattle.token.specs.Token.{formOf, tokenOf, tokenAt}
 use Rattle.token.specs.Laws.{moved}
 use Rattle.token.proofs.Leads as Lead
-use Rattle.value.specs.Value.{Atom, bytes, Value, atom, list, Values}
+use Rattle.value.specs.Value.{Atom, Value, Values}
 use Rattle.value.specs.Plain as P
 use Rattle.value.specs.Plain.{atomIn, plainIn, plainsIn}
 use Rattle.value.specs.Read.{Out, ok, bad, then, markOf, atomIs, endOr, listBy, namedBy, nestBy, valueOf, valueBy, valueAt, valuesAt}
 use Rattle.value.specs.Laws.{AtomLies, One, Stuffed, same, empty, token, Alike}
-use Rattle.value.proofs.Outs.{Ends, Any, Has, mark-ends, atom-ends}
+use Rattle.value.proofs.Outs.{Ends, Any, Has}
 use Rattle.value.proofs.Tokens.{token-held}
-use Rattle.value.proofs.Held.{value-ends, values-end}
+use Rattle.value.proofs.Held.{value-ends}
 use Rattle.value.proofs.Inside.{token-ends, values-step}
 use Rattle.value.proofs.Moved.{Whole, token-moved, token-prefix}
 
@@ -44,39 +44,41 @@ module _ (s t : List ℕ) where
   abbrev pub Beside : ℕ → ℕ → Type 0
   Beside p p′ = Stuffed (drop p s) (drop p′ t)
 
-  -- ---- tokens: one token, k further on in s and k′ further on in t
-  abbrev Fits : ℕ → ℕ → Token → Type 0
-  Fits k k′ (K.Int v q) = Beside (k + q) (k′ + q)
-  Fits k k′ (K.Bytes b n q) = (take n (drop (k + b) s) ≡ take n (drop (k′ + b) t)) × Beside (k + q) (k′ + q)
-  Fits k k′ (K.Control c q) = Beside (k + q) (k′ + q)
-  Fits k k′ K.End = Unit {0}
-  Fits k k′ K.Broken = Unit {0}
+  -- ---- the same token at both, by the same bytes, with the same tokens after it
+  pub data Twins : Token → Token → Type 0 where
+    int : (v : ℕ) {q r : ℕ} → Beside q r → Twins (K.Int v q) (K.Int v r)
+    bytes : (b c n : ℕ) {q r : ℕ} → take n (drop b s) ≡ take n (drop c t) → Beside q r → Twins (K.Bytes b n q) (K.Bytes c n r)
+    control : (c : ℕ) {q r : ℕ} → Beside q r → Twins (K.Control c q) (K.Control c r)
+    end : Twins K.End K.End
+    broken : Twins K.Broken K.Broken
 
-  record Twins (x y : Token) : Type 0 where
-    here : ℕ
-    there : ℕ
-    one : Token
-    x-is : x ≡ moved here one
-    y-is : y ≡ moved there one
-    fit : Fits here there one
+  -- the token o, p further on in s and p′ further on in t: of the same list of bytes
+  same-twins : (p p′ : ℕ) (l : List ℕ) (o : Token) → l ≡ drop p s → l ≡ drop p′ t → Twins (moved p o) (moved p′ o)
+  same-twins p p′ l o e f = go o
+    where
+      on : (q : ℕ) → Beside (p + q) (p′ + q)
+      on q = rw (rest-of s l p q e, rest-of t l p′ q f) (same (drop q l))
 
-  -- the same list of bytes
-  same-fits : (p p′ : ℕ) (l : List ℕ) (o : Token) → l ≡ drop p s → l ≡ drop p′ t → Fits p p′ o
-  same-fits p p′ l (K.Int v q) e f = rw (rest-of s l p q e, rest-of t l p′ q f) (same (drop q l))
-  same-fits p p′ l (K.Bytes b n q) e f =
-      (rw (rest-of s l p b e, rest-of t l p′ b f), rw (rest-of s l p q e, rest-of t l p′ q f) (same (drop q l)))
-  same-fits p p′ l (K.Control c q) e f = rw (rest-of s l p q e, rest-of t l p′ q f) (same (drop q l))
-  same-fits p p′ l K.End e f = tt
-  same-fits p p′ l K.Broken e f = tt
+      go : (o : Token) → Twins (moved p o) (moved p′ o)
+      go (K.Int v q) = Twins.int v (on q)
+      go (K.Bytes b n q) = Twins.bytes (p + b) (p′ + b) n (rw (rest-of s l p b e, rest-of t l p′ b f)) (on q)
+      go (K.Control c q) = Twins.control c (on q)
+      go K.End = Twins.end
+      go K.Broken = Twins.broken
 
-  -- one token before lists that are the same but for empty tokens
-  one-fits : (p p′ : ℕ) (c l m : List ℕ) (o : Token) → One c o → Has AtomLies 0 (length c) o → Stuffed l m → c ++ l ≡ drop p s → c ++ m ≡ drop p′ t → Fits p p′ o
-  one-fits p p′ c l m (K.Int v q) h a r e f = rw (after s c l p q e h, after t c m p′ q f h) r
-  one-fits p p′ c l m (K.Bytes b n q) h a r e f =
-      (part-of s c l p b n e (omega arith) ∙ sym (part-of t c m p′ b n f (omega arith)), rw (after s c l p q e h, after t c m p′ q f h) r)
-  one-fits p p′ c l m (K.Control k q) h a r e f = rw (after s c l p q e h, after t c m p′ q f h) r
-  one-fits p p′ c l m K.End h a r e f = tt
-  one-fits p p′ c l m K.Broken h a r e f = tt
+  -- or one token before lists that are the same but for empty tokens
+  one-twins : (p p′ : ℕ) (c l m : List ℕ) (o : Token) → One c o → Has AtomLies 0 (length c) o → Stuffed l m → c ++ l ≡ drop p s → c ++ m ≡ drop p′ t → Twins (moved p o) (moved p′ o)
+  one-twins p p′ c l m o h a r e f = go o h a
+    where
+      on : (q : ℕ) → q ≡ length c → Beside (p + q) (p′ + q)
+      on q h = rw (after s c l p q e h, after t c m p′ q f h) r
+
+      go : (o : Token) → One c o → Has AtomLies 0 (length c) o → Twins (moved p o) (moved p′ o)
+      go (K.Int v q) h a = Twins.int v (on q h)
+      go (K.Bytes b n q) h a = Twins.bytes (p + b) (p′ + b) n (part-of s c l p b n e (omega arith) ∙ sym (part-of t c m p′ b n f (omega arith))) (on q h)
+      go (K.Control k q) h a = Twins.control k (on q h)
+      go K.End h a = Twins.end
+      go K.Broken h a = Twins.broken
 
   one-whole : (c : List ℕ) (o : Token) → One c o → Whole o
   one-whole c (K.Int v q) h = tt
@@ -86,25 +88,15 @@ module _ (s t : List ℕ) where
   one-whole c K.Broken h = h
 
   twins : {l m : List ℕ} (p p′ : ℕ) → Stuffed l m → l ≡ drop p s → m ≡ drop p′ t → Twins (tokenOf p l) (tokenOf p′ m)
-  twins p p′ (same l) e f = record {
-    here = p;
-    there = p′;
-    one = tokenOf 0 l;
-    x-is = token-moved p 0 p l (omega arith);
-    y-is = token-moved p′ 0 p′ l (omega arith);
-    fit = same-fits p p′ l (tokenOf 0 l) e f;
-  }
+  twins p p′ (same l) e f =
+      rw (token-moved p 0 p l (omega arith), token-moved p′ 0 p′ l (omega arith)) (same-twins p p′ l (tokenOf 0 l) e f)
   twins p p′ (empty {m = m} r) e f = rw (skip p′ m) (twins p (p′ + 1) r e (sym (rest-of t (0xff ∷ m) p′ 1 f)))
-  twins p p′ (token c {l = l} {m = m} h r) e f = record {
-    here = p;
-    there = p′;
-    one = tokenOf 0 c;
-    x-is = token-moved p 0 p (c ++ l) (omega arith) ∙ ap (moved p) (token-prefix 0 c l (one-whole c (tokenOf 0 c) h));
-    y-is = token-moved p′ 0 p′ (c ++ m) (omega arith) ∙ ap (moved p′) (token-prefix 0 c m (one-whole c (tokenOf 0 c) h));
-    fit = one-fits p p′ c l m (tokenOf 0 c) h (token-held c 0) r e f;
-  }
+  twins p p′ (token c {l = l} {m = m} h r) e f =
+      let w = one-whole c (tokenOf 0 c) h in
+      rw (token-moved p 0 p (c ++ l) (omega arith), token-prefix 0 c l w, token-moved p′ 0 p′ (c ++ m) (omega arith), token-prefix 0 c m w)
+      (one-twins p p′ c l m (tokenOf 0 c) h (token-held c 0) r e f)
 
-  token-twins : (p p′ : ℕ) → Beside p p′ → Twins (tokenAt s p) (tokenAt t p′)
+  pub token-twins : (p p′ : ℕ) → Beside p p′ → Twins (tokenAt s p) (tokenAt t p′)
   token-twins p p′ b = twins p p′ b refl refl
 
   -- ---- what is read, and where it ends
@@ -114,13 +106,13 @@ module _ (s t : List ℕ) where
   Both R bad (ok b r) = ⊥
   Both R bad bad = Unit {0}
 
-  then-both : {A B : Type 0} (R : A → A → Type 0) (Q : B → B → Type 0) (p n : ℕ) (o u : Out A) (k l : A → ℕ → Out B) → Ends Any p n o → Both R o u
-      → ((a b : A) (q r : ℕ) → p < q → q ≤ n → R a b → Beside q r → Both Q (k a q) (l b r)) → Both Q (then o k) (then u l)
+  pub then-both : {A B : Type 0} (R : A → A → Type 0) (Q : B → B → Type 0) (o u : Out A) (k l : A → ℕ → Out B) → Both R o u
+      → ((a b : A) (q r : ℕ) → o ≡ ok a q → R a b → Beside q r → Both Q (k a q) (l b r)) → Both Q (then o k) (then u l)
   unfolding then
-  then-both R Q p n (ok a q) (ok b r) k l h x g = g a b q r (h .0) (h .1) (x .0) (x .1)
-  then-both R Q p n (ok a q) bad k l h x g = absurd x
-  then-both R Q p n bad (ok b r) k l h x g = absurd x
-  then-both R Q p n bad bad k l h x g = tt
+  then-both R Q (ok a q) (ok b r) k l x g = g a b q r refl (x .0) (x .1)
+  then-both R Q (ok a q) bad k l x g = absurd x
+  then-both R Q bad (ok b r) k l x g = absurd x
+  then-both R Q bad bad k l x g = tt
 
   abbrev pub SameAtom : Atom → Atom → Type 0
   SameAtom a b = atomIn s a ≡ atomIn t b
@@ -131,45 +123,36 @@ module _ (s t : List ℕ) where
   abbrev pub SameValues : Values → Values → Type 0
   SameValues vs ws = plainsIn s vs ≡ plainsIn t ws
 
-  abbrev NoMatter : Unit {0} → Unit {0} → Type 0
+  abbrev pub NoMatter : Unit {0} → Unit {0} → Type 0
   NoMatter u v = Unit {0}
 
-  mark-both : (c : ℕ) (x y : Token) → Twins x y → Both NoMatter (markOf c x) (markOf c y)
+  pub mark-both : (c : ℕ) {x y : Token} → Twins x y → Both NoMatter (markOf c x) (markOf c y)
   unfolding markOf
-  mark-both c x y w = rw (w .x-is, w .y-is) (go (w .here) (w .there) (w .one) (w .fit))
+  mark-both c (Twins.int v z) = tt
+  mark-both c (Twins.bytes b b′ n e z) = tt
+  mark-both c (Twins.control k {q = q} {r = r} z) = pick (eqb k c) tt
     where
-      pick : (b : Bool) (q r : ℕ) (u : Unit {0}) → Beside q r → Both NoMatter (cond b (ok u q) bad) (cond b (ok u r) bad)
-      pick true q r u z = (tt, z)
-      pick false q r u z = tt
+      pick : (b : Bool) (u : Unit {0}) → Both NoMatter (cond b (ok u q) bad) (cond b (ok u r) bad)
+      pick true u = (tt, z)
+      pick false u = tt
+  mark-both c Twins.end = tt
+  mark-both c Twins.broken = tt
 
-      go : (k k′ : ℕ) (o : Token) → Fits k k′ o → Both NoMatter (markOf c (moved k o)) (markOf c (moved k′ o))
-      go k k′ (K.Int v q) f = tt
-      go k k′ (K.Bytes b n q) f = tt
-      go k k′ (K.Control e q) f = pick (eqb e c) (k + q) (k′ + q) tt f
-      go k k′ K.End f = tt
-      go k k′ K.Broken f = tt
-
-  atom-both : (x y : Token) → Twins x y → Both SameAtom (atomIs x) (atomIs y)
+  atom-both : {x y : Token} → Twins x y → Both SameAtom (atomIs x) (atomIs y)
   unfolding atomIs atomIn
-  atom-both x y w = rw (w .x-is, w .y-is) (go (w .here) (w .there) (w .one) (w .fit))
-    where
-      go : (k k′ : ℕ) (o : Token) → Fits k k′ o → Both SameAtom (atomIs (moved k o)) (atomIs (moved k′ o))
-      go k k′ (K.Int v q) f = (refl, f)
-      go k k′ (K.Bytes b n q) f = (ap P.bytes (f .0), f .1)
-      go k k′ (K.Control c q) f = tt
-      go k k′ K.End f = tt
-      go k k′ K.Broken f = tt
+  atom-both (Twins.int v z) = (refl, z)
+  atom-both (Twins.bytes b b′ n e z) = (ap P.bytes e, z)
+  atom-both (Twins.control k z) = tt
+  atom-both Twins.end = tt
+  atom-both Twins.broken = tt
 
-  token-both : (nest nest′ : ℕ → ℕ → Out Value) (x y : Token) → Twins x y → ((c q r : ℕ) → Beside q r → Both SameValue (nest c q) (nest′ c r)) → Both SameValue (valueOf nest x) (valueOf nest′ y)
+  token-both : (nest nest′ : ℕ → ℕ → Out Value) {x y : Token} → Twins x y → ((c q r : ℕ) → Beside q r → Both SameValue (nest c q) (nest′ c r)) → Both SameValue (valueOf nest x) (valueOf nest′ y)
   unfolding valueOf plainIn atomIn
-  token-both nest nest′ x y w g = rw (w .x-is, w .y-is) (go (w .here) (w .there) (w .one) (w .fit))
-    where
-      go : (k k′ : ℕ) (o : Token) → Fits k k′ o → Both SameValue (valueOf nest (moved k o)) (valueOf nest′ (moved k′ o))
-      go k k′ (K.Int v q) f = (refl, f)
-      go k k′ (K.Bytes b n q) f = (ap (λ (l : List ℕ). P.atom (P.bytes l)) (f .0), f .1)
-      go k k′ (K.Control c q) f = g c (k + q) (k′ + q) f
-      go k k′ K.End f = tt
-      go k k′ K.Broken f = tt
+  token-both nest nest′ (Twins.int v z) g = (refl, z)
+  token-both nest nest′ (Twins.bytes b b′ n e z) g = (ap (λ (l : List ℕ). P.atom (P.bytes l)) e, z)
+  token-both nest nest′ (Twins.control c {q = q} {r = r} z) g = g c q r z
+  token-both nest nest′ Twins.end g = tt
+  token-both nest nest′ Twins.broken g = tt
 
   or-both : (m n : Out (Unit {0})) (o u : Out Values) → Both NoMatter m n → Both SameValues o u → Both SameValues (endOr m o) (endOr n u)
   unfolding endOr plainIn plainsIn
@@ -183,16 +166,14 @@ module _ (s t : List ℕ) where
     ends : (p : ℕ) → Ends Any p (length s) (valueAt s d p)
     ends = value-ends (tokenAt s) (length s) (token-ends s) (length s) d
 
-    mark-at : (c p : ℕ) → Ends Any p (length s) (markOf c (tokenAt s p))
-    mark-at c p = mark-ends Any c p (length s) (tokenAt s p) (token-ends s p)
-
     step-both : (p p′ : ℕ) → Beside p p′ → ((q r : ℕ) → p < q → q ≤ length s → Beside q r → Both SameValues (valuesAt s d q) (valuesAt t d r)) → Both SameValues (valuesAt s d p) (valuesAt t d p′)
     unfolding plainIn plainsIn
     step-both p p′ b g =
         rw (values-step s d p, values-step t d p′)
-        (or-both _ _ _ _ (mark-both 0xf1 _ _ (token-twins p p′ b))
-        (then-both SameValue SameValues p (length s) (valueAt s d p) (valueAt t d p′) _ _ (ends p) (fb p p′ b) (λ v w q r h i x z.
-        then-both SameValues SameValues q (length s) (valuesAt s d q) (valuesAt t d r) _ _ (values-end (tokenAt s) (length s) (token-ends s) (length s) d q) (g q r h i z) (λ vs ws e f j k y u.
+        (or-both _ _ _ _ (mark-both 0xf1 (token-twins p p′ b))
+        (then-both SameValue SameValues (valueAt s d p) (valueAt t d p′) _ _ (fb p p′ b) (λ v w q r e x z.
+        let h : Ends Any p (length s) (ok v q) = rw e at (ends p) in
+        then-both SameValues SameValues (valuesAt s d q) (valuesAt t d r) _ _ (g q r (h .0) (h .1) z) (λ vs ws i j f y u.
         (rw (x, y), u)))))
 
     values-both : (n p p′ : ℕ) → length s - p ≤ n → Beside p p′ → Both SameValues (valuesAt s d p) (valuesAt t d p′)
@@ -202,16 +183,16 @@ module _ (s t : List ℕ) where
     listed-both : (p p′ : ℕ) → Beside p p′ → Both SameValue (listBy (tokenAt s) (valueAt s d) (length s) p) (listBy (tokenAt t) (valueAt t d) (length t) p′)
     unfolding listBy plainIn plainsIn
     listed-both p p′ b =
-        then-both SameValues SameValue p (length s) (valuesAt s d p) (valuesAt t d p′) _ _ (values-end (tokenAt s) (length s) (token-ends s) (length s) d p)
-        (values-both (length s) p p′ (omega arith) b) (λ vs ws q r i j x z. (ap P.list x, z))
+        then-both SameValues SameValue (valuesAt s d p) (valuesAt t d p′) _ _ (values-both (length s) p p′ (omega arith) b) (λ vs ws q r e x z.
+        (ap P.list x, z))
 
     named-both : (p p′ : ℕ) → Beside p p′ → Both SameValue (namedBy (tokenAt s) (valueAt s d) p) (namedBy (tokenAt t) (valueAt t d) p′)
     unfolding namedBy plainIn plainsIn
     named-both p p′ b =
-        then-both SameAtom SameValue p (length s) (atomIs (tokenAt s p)) (atomIs (tokenAt t p′)) _ _ (atom-ends Any p (length s) (tokenAt s p) (token-ends s p)) (atom-both _ _ (token-twins p p′ b)) (λ a a′ q q′ h i x z.
-        then-both SameValue SameValue q (length s) (valueAt s d q) (valueAt t d q′) _ _ (ends q) (fb q q′ z) (λ v w r r′ j k y u.
-        then-both NoMatter SameValue r (length s) (markOf 0xf3 (tokenAt s r)) (markOf 0xf3 (tokenAt t r′)) _ _ (mark-at 0xf3 r) (mark-both 0xf3 _ _ (token-twins r r′ u)) (λ c c′ e e′ l m n o.
-        (rw (x, y), o))))
+        then-both SameAtom SameValue (atomIs (tokenAt s p)) (atomIs (tokenAt t p′)) _ _ (atom-both (token-twins p p′ b)) (λ a a′ q q′ e x z.
+        then-both SameValue SameValue (valueAt s d q) (valueAt t d q′) _ _ (fb q q′ z) (λ v w r r′ f y u.
+        then-both NoMatter SameValue (markOf 0xf3 (tokenAt s r)) (markOf 0xf3 (tokenAt t r′)) _ _ (mark-both 0xf3 (token-twins r r′ u)) (λ c c′ i j g l m.
+        (rw (x, y), m))))
 
     nest-both : (c p p′ : ℕ) → Beside p p′ → Both SameValue (nestBy (tokenAt s) (valueAt s d) (length s) c p) (nestBy (tokenAt t) (valueAt t d) (length t) c p′)
     unfolding nestBy
@@ -227,8 +208,8 @@ module _ (s t : List ℕ) where
   -- values, and the values of lists, at such places: the same contents, and they end at such places
   pub value-both : (d p p′ : ℕ) → Beside p p′ → Both SameValue (valueAt s d p) (valueAt t d p′)
   unfolding valueBy
-  value-both zero p p′ b = token-both _ _ _ _ (token-twins p p′ b) (λ c q r z. tt)
-  value-both (suc d) p p′ b = token-both _ _ _ _ (token-twins p p′ b) (λ c q r z. nest-both d (value-both d) c q r z)
+  value-both zero p p′ b = token-both _ _ (token-twins p p′ b) (λ c q r z. tt)
+  value-both (suc d) p p′ b = token-both _ _ (token-twins p p′ b) (λ c q r z. nest-both d (value-both d) c q r z)
 
   pub list-both : (d p p′ : ℕ) → Beside p p′ → Both SameValues (valuesAt s d p) (valuesAt t d p′)
   list-both d p p′ b = values-both d (value-both d) (length s) p p′ (omega arith) b
