@@ -60,7 +60,7 @@ module _ (tok : ℕ → Token) (f : ℕ → Out Value) (n : ℕ) where
   list-by K.Broken = refl
 
 module _ (s : List ℕ) (p : ℕ) where
-  list-is : listAt s p ≡ then (markAt s 0xf0 p) (λ u b. then (valuesAt s 15 b) (λ vs q. ok b q))
+  pub list-is : listAt s p ≡ then (markAt s 0xf0 p) (λ u b. then (valuesAt s 15 b) (λ vs q. ok b q))
   unfolding valueBy
   list-is = list-by (tokenAt s) (valueAt s 15) _ (tokenAt s p)
 

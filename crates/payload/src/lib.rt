@@ -5,6 +5,7 @@ ghost use mathlib.Core.Path.{_≡_};
 ghost use Rattle.value.specs.Read.{ok, then, endOf};
 ghost use Rattle.payload.specs.Payload.{markAt, atomAt, uidAt, intAt, statusAt, callAt, finishIs, lastOf, payloadAt};
 ghost use Rattle.payload.specs.After.{after, uidOut};
+ghost use Rattle.payload.specs.Exact.{PayloadsAsSaid, Skipped};
 
 pub enum Payload {
     // a method of an object, both as numbers, with the values of its parameters from params on
@@ -168,3 +169,13 @@ pub fn parse(s: &[u8], at: usize) -> Payload
         _ => Payload::Broken,
     }
 }
+
+// Exactly which rows of tokens are which payload.
+pub fn law_payloads()
+    ensures { λ _. ⌜ PayloadsAsSaid ⌝ }
+{}
+
+// Skipping empty tokens never changes a payload.
+pub fn law_skipped()
+    ensures { λ _. ⌜ Skipped ⌝ }
+{}
