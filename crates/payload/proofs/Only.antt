@@ -1,6 +1,6 @@
 -- Nothing is read as a payload but the row of tokens that it is.
 use Prim.Native.Nat.{ℕ}
-use mathlib.Core.Path.{_≡_, refl}
+use mathlib.Core.Path.{_≡_, refl, sym}
 use mathlib.Core.List.{List}
 use mathlib.Core.Bool.{Bool, true, false, cond}
 use lib.Dec.{eqb}
@@ -15,6 +15,7 @@ use Rattle.payload.specs.declared.Payload.the-variants as P
 use Rattle.payload.specs.Payload.{markAt, atomAt, uidIs, uidAt, intIs, intAt, listAt, statusAt, callAt, finishIs, startsBy, isEnd, lastOf, payloadAt}
 use Rattle.payload.specs.Exact.{Control, Number, Uid, Listed, Nothing, Then, Says}
 use Rattle.payload.proofs.Steps.{list-is}
+use Rattle.payload.proofs.Taken.{number-of}
 
 -- what is read, if it is, is such
 abbrev Only : {A : Type 0} → (A → ℕ → Type 0) → Out A → Type 0
@@ -82,7 +83,7 @@ module _ (s : List ℕ) where
     where
       go : (a : Atom) (q : ℕ) → Is a p q → Only (λ v q. Uid s v p q) (uidIs s a q)
       go (int v) q e = tt
-      go (bytes b n) q e = if-so (λ v q. Uid s v p q) (eqb n 8) (ok _ q) bad (λ h. (b, rw (eqb-true n 8 h) at e, refl)) tt
+      go (bytes b n) q e = if-so (λ v q. Uid s v p q) (eqb n 8) (ok _ q) bad (λ h. let f : tokenAt s p ≡ K.Bytes b 8 q = rw (eqb-true n 8 h) at e in (b, f, sym (number-of s p b q f))) tt
 
   -- ---- rows of them
   list-only : (p : ℕ) → Only (λ b q. Control s 0xf0 p b × Listed s b q) (listAt s p)

@@ -1,9 +1,21 @@
 -- A row of tokens that is a payload is read as that payload.
 use Prim.Native.Nat.{ℕ}
-use mathlib.Core.Path.{_≡_, refl}
+use mathlib.Core.Path.{_≡_, refl, _∙_}
 use mathlib.Core.List.{List}
+use native.Mathlib.Omega.{arith}
+use lib.ListN.{length, take, drop}
+use lib.Dec.{lit≤}
 use borrow.Author.Tests.{eq-eqb}
+use Rattle.token.specs.declared.Token.the-variants as K
+use Rattle.token.specs.Bytes.{numberAt}
+use Rattle.token.specs.Token.{tokenAt}
+use Rattle.token.specs.Exact.{worth}
+use Rattle.token.proofs.Numbers.{number-there}
+use Rattle.token.proofs.Worth.{be-worth}
 use Rattle.value.specs.Read.{ok, then, markOf, atomIs}
+use Rattle.value.specs.Laws.{AtomLies}
+use Rattle.value.proofs.Outs.{Has}
+use Rattle.value.proofs.Tokens.{token-held}
 use Rattle.payload.specs.declared.Payload.{Payload}
 use Rattle.payload.specs.declared.Payload.the-variants as P
 use Rattle.payload.specs.Payload.{markAt, uidIs, uidAt, intIs, intAt, listAt, statusAt, callAt, finishIs, startsBy, isEnd, lastOf, payloadAt}
@@ -20,9 +32,15 @@ module _ (s : List ℕ) where
   unfolding atomIs intIs then
   int-taken w p q e = rw e (simp (eq-eqb w w refl))
 
+  -- the bytes of a token lie within s, so they make a number
+  pub number-of : (p b q : ℕ) → tokenAt s p ≡ K.Bytes b 8 q → numberAt s b 8 ≡ worth (take 8 (drop b s))
+  number-of p b q e =
+      let h : Has AtomLies p (length s) (K.Bytes b 8 q) = rw e at (token-held s p) in
+      number-there s b 8 (lit≤ tt) (omega arith) ∙ be-worth (take 8 (drop b s))
+
   uid-taken : (v p q : ℕ) → Uid s v p q → uidAt s p ≡ ok v q
   unfolding atomIs uidIs then
-  uid-taken v p q (b, e, f) = rw (e, f)
+  uid-taken v p q (b, e, f) = rw (e, number-of p b q e, f)
 
   list-taken : (p b q : ℕ) → Control s 0xf0 p b → Listed s b q → listAt s p ≡ ok b q
   unfolding then

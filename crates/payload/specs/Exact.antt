@@ -3,10 +3,10 @@
 use Prim.Native.Nat.{ℕ}
 use mathlib.Core.Path.{_≡_}
 use mathlib.Core.List.{List}
-use lib.ListN.{drop}
+use lib.ListN.{take, drop}
 use Rattle.token.specs.declared.Token.the-variants as K
-use Rattle.token.specs.Bytes.{numberAt}
 use Rattle.token.specs.Token.{tokenAt}
+use Rattle.token.specs.Exact.{worth}
 use Rattle.value.specs.Value.{Values}
 use Rattle.value.specs.Plain.{plainsIn}
 use Rattle.value.specs.Read.{Out, ok, bad, valuesAt}
@@ -24,7 +24,7 @@ Number s v p q = tokenAt s p ≡ K.Int v q
 
 -- "UIDs are 8 bytes"
 abbrev pub Uid : List ℕ → ℕ → ℕ → ℕ → Type 0
-Uid s u p q = (b : ℕ) × (tokenAt s p ≡ K.Bytes b 8 q) × (numberAt s b 8 ≡ u)
+Uid s u p q = (b : ℕ) × (tokenAt s p ≡ K.Bytes b 8 q) × (worth (take 8 (drop b s)) ≡ u)
 
 -- values up to F1, in which lists and named values nest to 15 more: "a call's list the first" of 16
 abbrev pub Listed : List ℕ → ℕ → ℕ → Type 0

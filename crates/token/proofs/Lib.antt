@@ -9,6 +9,7 @@ pub mod Forms
 pub mod Round
 pub mod Least
 pub mod Numbers
+pub mod Worth
 pub mod Table
 pub mod Taken
 pub mod Only

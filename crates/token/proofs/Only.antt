@@ -14,16 +14,17 @@ use Rattle.token.specs.declared.Token.{Token}
 use Rattle.token.specs.declared.Token.the-variants as K
 use Rattle.token.specs.Bytes.{within, beVal}
 use Rattle.token.specs.Token.{leadOf, atomOf, mediumOf, longOf, formOf, tokenOf, tokenAt}
-use Rattle.token.specs.Exact.{Word, IntSize, Form, Stands, Stood}
+use Rattle.token.specs.Exact.{worth, Word, IntSize, Form, Stands, Stood}
 use Rattle.token.specs.Exact as X
 use Rattle.token.proofs.Round.{range}
+use Rattle.token.proofs.Worth.{be-worth}
 use Rattle.token.proofs.Table.{Byte, byte-of}
 use Rattle.token.proofs.Taken.{rest-of}
 
 -- what stands before the n bytes of an atom
 abbrev Heads : Bool → ℕ → List ℕ → Type 0
 Heads true n a = (bs : List ℕ) → length bs ≡ n → Form (a ++ bs) (X.bytes bs)
-Heads false n a = (bs : List ℕ) → length bs ≡ n → IntSize bs → Form (a ++ bs) (X.int (beVal 0 bs))
+Heads false n a = (bs : List ℕ) → length bs ≡ n → IntSize bs → Form (a ++ bs) (X.int (worth bs))
 
 module _ (s : List ℕ) (p : ℕ) where
   -- a token at p, with no empty one before it
@@ -60,7 +61,7 @@ module _ (s : List ℕ) (p : ℕ) where
           let g = leb-true n (length l) i in
           let c = count a l b e h n g in
           let r = range 1 8 n d in
-          at-once (a ++ take n l) (drop n l) (b + n) (split a l b e h n g) (f (take n l) c (omega arith, omega arith)) (end a l b e h n g)
+          rw (be-worth (take n l)) (at-once (a ++ take n l) (drop n l) (b + n) (split a l b e h n g) (f (take n l) c (omega arith, omega arith)) (end a l b e h n g))
       go true false d i = tt
       go false u d i = tt
 

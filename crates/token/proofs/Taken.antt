@@ -9,11 +9,12 @@ use lib.ListN.{length, take, drop, replicate, length-append, length-replicate}
 use lib.Seq.{take-at, drop-drop, drop-append-seam}
 use Rattle.token.specs.declared.Token.{Token}
 use Rattle.token.specs.declared.Token.the-variants as K
-use Rattle.token.specs.Bytes.{within, beVal}
+use Rattle.token.specs.Bytes.{within}
 use Rattle.token.specs.Token.{isControl, leadOf, formOf, atomOf, tokenOf, tokenAt}
-use Rattle.token.specs.Exact.{Word, IntSize, Form, Reads, Stands}
+use Rattle.token.specs.Exact.{worth, Word, IntSize, Form, Reads, Stands}
 use Rattle.token.specs.Exact as X
 use Rattle.token.proofs.Leads as Leads
+use Rattle.token.proofs.Worth.{be-worth}
 use Rattle.token.proofs.Tokens.{atom-int, atom-bytes}
 use Rattle.token.proofs.Round.{is-tiny, is-short, is-medium, is-long, is-control, range-control}
 
@@ -37,8 +38,8 @@ module _ (bs r : List ℕ) (n p q : ℕ) (count : length bs ≡ n) (ends : p + l
   fits : n ≤ length (bs ++ r)
   fits = rw length-append (omega arith)
 
-  told-int : IntSize bs → Told (X.int (beVal 0 bs)) q (atomOf false n p (bs ++ r))
-  told-int i = rw (← count, ← ends) (atom-int (length bs) p (bs ++ r) (rw count fits) (i .0) (i .1) ∙ rw (take-at bs r (length bs) refl))
+  told-int : IntSize bs → Told (X.int (worth bs)) q (atomOf false n p (bs ++ r))
+  told-int i = rw (← count, ← ends) (atom-int (length bs) p (bs ++ r) (rw count fits) (i .0) (i .1) ∙ rw (take-at bs r (length bs) refl, be-worth bs))
 
   told-bytes : Told (X.bytes bs) q (atomOf true n p (bs ++ r))
   told-bytes = (p, rw (← count, ← ends) (atom-bytes (length bs) p (bs ++ r) (rw count fits)), ends)

@@ -1,5 +1,5 @@
 -- Exactly which bytes are which token, in document 01's figures and in both directions.
-use Prim.Native.Nat.{ℕ, zero, suc, _+_, _*_, _≤_, _<_}
+use Prim.Native.Nat.{ℕ, zero, suc, _+_, _*_, _^_, _≤_, _<_}
 use mathlib.Core.Path.{_≡_}
 use mathlib.Core.Bool.{false, true}
 use mathlib.Core.List.{List, [], _∷_, _++_}
@@ -9,7 +9,6 @@ use Rattle.token.specs.declared.Lead.{Lead}
 use Rattle.token.specs.declared.Lead.the-variants as L
 use Rattle.token.specs.declared.Token.{Token}
 use Rattle.token.specs.declared.Token.the-variants as K
-use Rattle.token.specs.Bytes.{beVal}
 use Rattle.token.specs.Token.{leadOf, tokenAt}
 
 -- ---- the first byte, as 256 rows
@@ -42,6 +41,11 @@ abbrev pub FirstByte : Type 0
 FirstByte = (b : ℕ) → b < 256 → leadOf b ≡ getD firstBytes b L.Broken
 
 -- ---- what a token says
+-- the number that bytes make, the first worth the most
+unfoldable pub worth : List ℕ → ℕ
+worth [] = 0
+worth (b ∷ bs) = b * 256 ^ length bs + worth bs
+
 pub data Word : Type 0 where
   int : ℕ → Word
   bytes : List ℕ → Word
@@ -54,11 +58,11 @@ IntSize bs = (1 ≤ length bs) × (length bs ≤ 8)
 -- the bytes of one token, and what it says
 pub data Form : List ℕ → Word → Type 0 where
   tiny : (b : ℕ) → b < 0x40 → Form (b ∷ []) (int b)
-  short-int : (bs : List ℕ) → IntSize bs → Form ((0x80 + length bs) ∷ bs) (int (beVal 0 bs))
+  short-int : (bs : List ℕ) → IntSize bs → Form ((0x80 + length bs) ∷ bs) (int (worth bs))
   short-bytes : (bs : List ℕ) → length bs ≤ 15 → Form ((0xa0 + length bs) ∷ bs) (bytes bs)
-  medium-int : (h x : ℕ) (bs : List ℕ) → h < 8 → length bs ≡ h * 256 + x → IntSize bs → Form ((0xc0 + h) ∷ x ∷ bs) (int (beVal 0 bs))
+  medium-int : (h x : ℕ) (bs : List ℕ) → h < 8 → length bs ≡ h * 256 + x → IntSize bs → Form ((0xc0 + h) ∷ x ∷ bs) (int (worth bs))
   medium-bytes : (h x : ℕ) (bs : List ℕ) → h < 8 → length bs ≡ h * 256 + x → Form ((0xd0 + h) ∷ x ∷ bs) (bytes bs)
-  long-int : (x y z : ℕ) (bs : List ℕ) → length bs ≡ x * 65536 + y * 256 + z → IntSize bs → Form (0xe0 ∷ x ∷ y ∷ z ∷ bs) (int (beVal 0 bs))
+  long-int : (x y z : ℕ) (bs : List ℕ) → length bs ≡ x * 65536 + y * 256 + z → IntSize bs → Form (0xe0 ∷ x ∷ y ∷ z ∷ bs) (int (worth bs))
   long-bytes : (x y z : ℕ) (bs : List ℕ) → length bs ≡ x * 65536 + y * 256 + z → Form (0xe2 ∷ x ∷ y ∷ z ∷ bs) (bytes bs)
   mark : (c : ℕ) → ((0xf0 ≤ c) × (c ≤ 0xf3)) ⊎ ((0xf8 ≤ c) × (c ≤ 0xfc)) → Form (c ∷ []) (control c)
 
