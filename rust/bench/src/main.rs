@@ -6,6 +6,7 @@
 #![forbid(unsafe_code)]
 
 mod layout;
+mod report;
 mod scenes;
 
 use std::hint::black_box;
@@ -13,6 +14,7 @@ use std::process::ExitCode;
 use std::time::{Duration, Instant};
 
 use flamepocket::ANSWER_ROOM;
+use report::Rates;
 use scenes::Scene;
 
 /// Commands in one timed round, each on a card of its own, copied before the clock starts.
@@ -21,11 +23,9 @@ const BATCH: usize = 100;
 const ROUNDS: usize = 60;
 
 fn main() -> ExitCode {
-    match scenes::all().map_err(|refusal| refusal.to_string()).and_then(|scenes| table(&scenes)) {
-        Ok(table) => {
-            print!("{table}");
-            ExitCode::SUCCESS
-        }
+    let arguments: Vec<String> = std::env::args().skip(1).collect();
+    match timing::runs(&arguments).and_then(measured) {
+        Ok(()) => ExitCode::SUCCESS,
         Err(message) => {
             eprintln!("{message}");
             ExitCode::FAILURE
@@ -33,37 +33,32 @@ fn main() -> ExitCode {
     }
 }
 
-fn table(scenes: &[Scene]) -> Result<String, String> {
-    let mut table = format!(
+fn measured(count: usize) -> Result<(), String> {
+    let scenes = scenes::all().map_err(|refusal| refusal.to_string())?;
+    scenes.iter().try_for_each(same_result)?;
+    println!("{}", conditions());
+    let mut runs = vec![];
+    for number in 1..=count {
+        let run = scenes.iter().map(rates).collect::<Result<report::Run, _>>()?;
+        println!("Run {number} of {count}\n{}", report::run(&scenes, &run));
+        runs.push(run);
+    }
+    if count > 1 {
+        print!("{}", report::all_runs(&scenes, &runs));
+    }
+    Ok(())
+}
+
+fn conditions() -> String {
+    format!(
         "Commands a second: best of {ROUNDS} rounds of {BATCH} commands, the programs by turns.\n\
          Answer buffer {ANSWER_ROOM} bytes, not cleared between commands; requests as listed.\n\
-         The record: {} bytes as an image, {} as the library's Card in memory.\n\n\
-         {:20} {:>7} {:>12} {:>12} {:>7} {:>14} {:>7}\n",
+         The record: {} bytes as an image, {} as the library's Card in memory.\n\
+         Machine: {}.\n",
         flamepocket::ffi::record_length(),
         layout::CARD_BYTES,
-        "request",
-        "bytes",
-        "library",
-        "second",
-        "ratio",
-        "second+image",
-        "ratio"
-    );
-    for scene in scenes {
-        same_result(scene)?;
-        let [library, second, over_images] = times(scene)?.map(rate);
-        table += &format!(
-            "{:20} {:>7} {:>12.0} {:>12.0} {:>7.3} {:>14.0} {:>7.3}\n",
-            scene.name,
-            scene.request.len(),
-            library,
-            second,
-            library / second,
-            over_images,
-            library / over_images
-        );
-    }
-    Ok(table)
+        timing::machine()
+    )
 }
 
 fn second_card(scene: &Scene) -> Result<second::Card, String> {
@@ -87,8 +82,8 @@ fn same_result(scene: &Scene) -> Result<(), String> {
     }
 }
 
-/// The best time of a round: the library, the second program, the second program over images.
-fn times(scene: &Scene) -> Result<[Duration; 3], String> {
+/// The rate of each program's best round: the library, the second program, the second program over images.
+fn rates(scene: &Scene) -> Result<Rates, String> {
     let second = second_card(scene)?;
     let image = scene.card.image().to_vec();
     let mut best = [Duration::MAX; 3];
@@ -112,7 +107,7 @@ fn times(scene: &Scene) -> Result<[Duration; 3], String> {
             *best = time.min(*best);
         }
     }
-    Ok(best)
+    Ok(best.map(|round| BATCH as f64 / round.as_secs_f64()))
 }
 
 /// The time of one round of commands on copies of a card.
@@ -123,8 +118,4 @@ fn timed<Card: Clone>(card: &Card, mut command: impl FnMut(&mut Card)) -> Durati
     let time = start.elapsed();
     black_box(cards);
     time
-}
-
-fn rate(round: Duration) -> f64 {
-    BATCH as f64 / round.as_secs_f64()
 }

@@ -11,7 +11,7 @@
 #![forbid(unsafe_code)]
 
 mod big_endian;
-pub mod chance;
+pub use ::chance;
 pub mod coverage;
 pub mod damage_tour;
 pub mod event;

@@ -1,5 +1,7 @@
 //! A small generator of numbers (splitmix64), so that a run can be had again from its seed.
 
+#![forbid(unsafe_code)]
+
 pub struct Chance(u64);
 
 impl Chance {
