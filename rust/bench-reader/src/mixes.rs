@@ -27,9 +27,9 @@ pub struct Mix {
 }
 
 impl Mix {
-    /// The bytes of a payload; all of a mix have as many.
+    /// The bytes of a payload; where they have not as many, in the mean.
     pub fn bytes(&self) -> usize {
-        self.buffers[0].len() - self.at
+        self.buffers.iter().map(|buffer| buffer.len() - self.at).sum::<usize>() / self.buffers.len()
     }
 }
 
@@ -60,8 +60,11 @@ fn short() -> Vec<Mix> {
         ("Set of seven columns", requests::set(&uid::range(1), &columns)),
         ("end of session", requests::end_session()),
     ];
-    let mix = |(name, payload)| Mix { group: "short payloads", name, buffers: vec![payload], at: 0, whole: true };
-    payloads.into_iter().map(mix).collect()
+    let mix = |name, buffers| Mix { group: "short payloads", name, buffers, at: 0, whole: true };
+    let all = payloads.iter().map(|(_, payload)| payload.clone()).collect();
+    let mut mixes: Vec<Mix> = payloads.into_iter().map(|(name, payload)| mix(name, vec![payload])).collect();
+    mixes.push(mix("these four by turns", all));
+    mixes
 }
 
 /// Payloads of `size` bytes, each kind with whether it is whole.
