@@ -1,11 +1,8 @@
 //! The readers, each with the same question and the same kind of answer.
 
-use yardstick::{lean, obvious, Payload};
+use yardstick::numbered::{by_lean, by_obvious, Words};
 
 use crate::ffi;
-
-/// Object, method and the place of the parameters of a call; as they were where it is none.
-pub type Words = [u64; 3];
 
 /// No payload made here has such words, so a word that should not be written shows.
 const UNTOUCHED: Words = [0x5A5A_5A5A_5A5A_5A5A; 3];
@@ -37,35 +34,11 @@ impl Reader {
     }
 }
 
-#[inline(never)]
-fn by_obvious(bytes: &[u8], at: usize, words: &mut Words) -> usize {
-    numbered(obvious::parse(bytes, at), words)
-}
-
-#[inline(never)]
-fn by_lean(bytes: &[u8], at: usize, words: &mut Words) -> usize {
-    numbered(lean::parse(bytes, at), words)
-}
-
-#[inline(always)]
-fn numbered(payload: Option<Payload>, words: &mut Words) -> usize {
-    match payload {
-        None => 0,
-        Some(Payload::Call { object, method, parameters }) => {
-            *words = [object, method, parameters as u64];
-            1
-        }
-        Some(Payload::EndSession) => 2,
-        Some(Payload::Begin) => 3,
-        Some(Payload::Commit) => 4,
-        Some(Payload::Abandon) => 5,
-    }
-}
-
 #[cfg(test)]
 mod tests {
     use super::*;
     use yardstick::borders;
+    use yardstick::numbered::numbered;
 
     #[test]
     fn borders_are_read_as_they_are() {

@@ -4,8 +4,8 @@
 use crate::{code, Payload, DEPTH_LIMIT};
 
 /// The payload that stands in `bytes` from `at` on and ends with them; None where it is broken.
-// To be inlined like any function of the caller's own crate.
-#[inline]
+// Inlined where it is called: handing the answer over by memory would be a third of the time for one byte.
+#[inline(always)]
 pub fn parse(bytes: &[u8], at: usize) -> Option<Payload> {
     let at = past_empty(bytes, at);
     let (payload, end) = match *bytes.get(at)? {

@@ -1,13 +1,15 @@
 //! The payload reader again in plain, safe Rust, to measure ours by: document 01's grammar and limits, nothing else.
 //!
 //! [`obvious`] is how one would write it: a token at a time, a function for each rule. [`lean`] has no tokens: it
-//! finds where a value ends by its first byte. Neither allocates. [`borders`] are payloads at the grammar's edges.
+//! finds where a value ends by its first byte. Neither allocates. [`numbered`] has both with their answers as numbers,
+//! as ours gives them, and [`borders`] are payloads at the grammar's edges.
 
 #![forbid(unsafe_code)]
 
 pub mod borders;
 mod code;
 pub mod lean;
+pub mod numbered;
 pub mod obvious;
 
 /// Lists and named values nest this deep, a call's list being the first.

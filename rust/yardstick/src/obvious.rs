@@ -16,8 +16,8 @@ struct Reader<'a> {
 }
 
 /// The payload that stands in `bytes` from `at` on and ends with them; None where it is broken.
-// To be inlined like any function of the caller's own crate.
-#[inline]
+// Inlined where it is called: handing the answer over by memory would be a third of the time for one byte.
+#[inline(always)]
 pub fn parse(bytes: &[u8], at: usize) -> Option<Payload> {
     let mut reader = Reader { bytes, at };
     let payload = match reader.token()? {
