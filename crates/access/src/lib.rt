@@ -568,7 +568,7 @@ pub fn has_column(columns: u32, c: u8) -> bool
 }
 
 // What the rows for an object and a method say: that there is one, that one holds for the session, and the columns of those that hold.
-#[derive(Drop)]
+#[derive(Clone, Copy)]
 pub struct Found {
     pub listed: bool,
     pub held: bool,

@@ -1,4 +1,5 @@
 // One value of a list at a time, seen flat: the step with which every list of parameters is walked.
+#![tactic(auto)]
 ghost use Rattle.std.specs.Prelude.{◌≡◌, ℕ};
 ghost use Rattle.token.specs.Token.{token_at};
 ghost use Rattle.value.specs.Value.{Value};
@@ -11,7 +12,7 @@ use token::Token;
 use value::End;
 
 // A value, seen flat. Places are those of the slice that it was read from.
-#[derive(Drop)]
+#[derive(Clone, Copy)]
 pub enum Slot {
     Absent,
     Int(u64),
@@ -21,7 +22,7 @@ pub enum Slot {
     Named,
 }
 
-#[derive(Drop)]
+#[derive(Clone, Copy)]
 pub enum Item {
     // the end of the list
     Shut(usize),

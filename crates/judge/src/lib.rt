@@ -46,7 +46,7 @@ const ACTIVATE: u32 = 0x203;
 // ---- PINs: "class or disabled authority; Tries = 5; PIN differs"
 
 // How the checks of an authority end; at the last the PIN of a row must be compared.
-#[derive(Drop)]
+#[derive(Clone, Copy)]
 pub enum Asked {
     Barred,
     Full,

@@ -13,7 +13,7 @@ ghost use Rattle.line.specs.Write.{hex_text, bytes_at, put_end};
 ghost use Rattle.line.specs.Laws.{ReadBack};
 
 // Why a line can't be read.
-#[derive(Drop)]
+#[derive(Clone, Copy)]
 pub enum Why {
     // the first word is none of ours
     Word,
@@ -34,7 +34,7 @@ pub enum Why {
 }
 
 // What a line says. Bytes stay in the line: len digits, an even count, from at on; none for `-`.
-#[derive(Drop)]
+#[derive(Clone, Copy)]
 pub enum Line {
     // nothing, or a remark
     Pass,
@@ -49,7 +49,7 @@ pub enum Line {
 }
 
 // What a walk along a line stops at.
-#[derive(Drop)]
+#[derive(Clone, Copy)]
 pub enum Stop {
     Blank,
     // anything but a blank
@@ -59,27 +59,27 @@ pub enum Stop {
 }
 
 // A word, from its first place to the place after it.
-#[derive(Drop)]
+#[derive(Clone, Copy)]
 pub enum Found {
     At(usize, usize),
     Nothing,
 }
 
 // A number and the place after it.
-#[derive(Drop)]
+#[derive(Clone, Copy)]
 pub enum Num {
     Is(u64, usize),
     Not(Why),
 }
 
 // Where hex digits start, how many there are, and the place after their word.
-#[derive(Drop)]
+#[derive(Clone, Copy)]
 pub enum Digits {
     Are(usize, usize, usize),
     Not(Why),
 }
 
-#[derive(Drop)]
+#[derive(Clone, Copy)]
 pub enum Verb {
     New,
     Command,
@@ -93,7 +93,7 @@ pub enum Verb {
 }
 
 // How bytes are put into a buffer: as they are, as hex digits, or as the bytes that they say as hex digits.
-#[derive(Drop)]
+#[derive(Clone, Copy)]
 pub enum Form {
     Plain,
     Spelled,

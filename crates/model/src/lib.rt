@@ -46,7 +46,7 @@ pub struct Tables {
 }
 
 // The public part of a PIN row.
-#[derive(Drop)]
+#[derive(Clone, Copy)]
 pub struct PinRow {
     pub tries: u8,
 }
@@ -102,7 +102,7 @@ pub struct Card {
 }
 
 // What a UID names in a session's SP.
-#[derive(Drop)]
+#[derive(Clone, Copy)]
 pub enum Object {
     PinSid,
     PinMsid,
@@ -120,7 +120,7 @@ pub enum Object {
 }
 
 // Who a UID names in an SP.
-#[derive(Drop)]
+#[derive(Clone, Copy)]
 pub enum Who {
     Unknown,
     Anybody,
@@ -129,7 +129,7 @@ pub enum Who {
 }
 
 // One access row, all numbers: the object's kind, the method, the class of authorities, and the columns as a set of bits.
-#[derive(Drop)]
+#[derive(Clone, Copy)]
 pub struct Access {
     pub kind: u8,
     pub method: u32,
@@ -137,7 +137,7 @@ pub struct Access {
     pub columns: u32,
 }
 
-#[derive(Drop)]
+#[derive(Clone, Copy)]
 pub enum Status {
     Success,
     NotAuthorized,
@@ -148,7 +148,7 @@ pub enum Status {
 }
 
 // What a Set asks of MBRControl.
-#[derive(Drop)]
+#[derive(Clone, Copy)]
 pub struct MbrEdit {
     pub enable: Flag,
     pub done: Flag,
@@ -156,7 +156,7 @@ pub struct MbrEdit {
 }
 
 // Every change that a method makes to the tables or the PINs. Bytes are named by their place in the request.
-#[derive(Drop)]
+#[derive(Clone, Copy)]
 pub enum Change {
     Nothing,
     PutPin { row: usize, at: usize, len: usize },
@@ -170,7 +170,7 @@ pub enum Change {
     RevertSp,
 }
 
-#[derive(Drop)]
+#[derive(Clone, Copy)]
 pub enum Decision {
     // a method refused
     Refuse(Status),
@@ -198,7 +198,7 @@ pub enum Decision {
 }
 
 // What a request is judged to be: decided, or a PIN row to be compared with bytes of the request, and what follows where they are equal and where they differ.
-#[derive(Drop)]
+#[derive(Clone, Copy)]
 pub enum Judged {
     Settled(Decision),
     Compare {
@@ -219,7 +219,7 @@ pub struct Outcome {
 }
 
 // What comes back of a media question.
-#[derive(Drop)]
+#[derive(Clone, Copy)]
 pub enum Ruling {
     Unsound,
     Ruled(Verdict),

@@ -1,4 +1,5 @@
 // The envelope of a request or an answer: ComPacket, Packet and Subpacket, read and written.
+#![tactic(auto)]
 ghost use Rattle.std.specs.Prelude.{◌≡◌, ◌++◌, ◌+◌, ◌<◌, ◌≤◌, length, drop};
 ghost use Rattle.token.specs.Bytes.{be_of, number_at, over};
 ghost use Rattle.packet.specs.Envelope.{pad_of, opened_of, header, seal_end, seal_all};
@@ -8,14 +9,14 @@ ghost use Rattle.packet.specs.Exact.{FieldsAsSaid};
 use token::Put;
 
 // The card's number of a session. Not the host's: the two are types of their own, so that a swap does not compile.
-#[derive(Drop)]
+#[derive(Clone, Copy)]
 pub struct Tsn(pub u32);
 
 // The host's number of a session.
-#[derive(Drop)]
+#[derive(Clone, Copy)]
 pub struct Hsn(pub u32);
 
-#[derive(Drop)]
+#[derive(Clone, Copy)]
 pub enum Opened {
     // whose session it is, and where the payload stands
     Packet {

@@ -1,4 +1,5 @@
 // The parameters of each method. Where a parameter is bytes, its place is that of the request.
+#![tactic(auto)]
 ghost use Rattle.std.specs.Prelude.{◌≡◌, true, false, ◌&&◌, ◌||◌, cond, eqb};
 ghost use Rattle.value.specs.Value.{list};
 ghost use Rattle.value.specs.Read.{values_at};
@@ -18,14 +19,14 @@ use value::End;
 pub const COLUMNS: usize = 20;
 
 // A cell block: the start column and the end column, each an integer or absent.
-#[derive(Drop)]
+#[derive(Clone, Copy)]
 pub enum Block {
     Of { start: Slot, end: Slot },
     Broken,
 }
 
 // What a Set's list of columns is: good, or the first offence in it.
-#[derive(Drop)]
+#[derive(Clone, Copy)]
 pub enum Shape {
     Good,
     Broken,
@@ -33,19 +34,19 @@ pub enum Shape {
     Repeated,
 }
 
-#[derive(Drop)]
+#[derive(Clone, Copy)]
 pub struct Column {
     pub given: Slot,
 }
 
 // The columns of a Set by their numbers; none where the shape is not good.
-#[derive(Drop)]
+#[derive(Clone, Copy)]
 pub struct Columns {
     pub shape: Shape,
     pub rows: [Column; COLUMNS],
 }
 
-#[derive(Drop)]
+#[derive(Clone, Copy)]
 pub enum Start {
     // the challenge is bytes or absent, the authority eight bytes or absent
     Asked {
@@ -58,7 +59,7 @@ pub enum Start {
     Broken,
 }
 
-#[derive(Drop)]
+#[derive(Clone, Copy)]
 pub enum Proof {
     // the proof is bytes or absent
     Asked { authority: u64, proof: Slot },
@@ -66,7 +67,7 @@ pub enum Proof {
 }
 
 // A set of reset types.
-#[derive(Drop)]
+#[derive(Clone, Copy)]
 pub enum Resets {
     // {0}
     Power,
@@ -76,7 +77,7 @@ pub enum Resets {
 }
 
 // A value seen flat, and where the next one stands.
-#[derive(Drop)]
+#[derive(Clone, Copy)]
 struct Taken {
     slot: Slot,
     next: usize,

@@ -1,4 +1,5 @@
 // What a payload is: a call, the end of a session, the start or the end of a transaction, or broken.
+#![tactic(auto)]
 ghost use Rattle.std.specs.Prelude.{◌≡◌};
 ghost use Rattle.value.specs.Read.{ok, then, end_of};
 ghost use Rattle.payload.specs.Payload.{mark_at, atom_at, uid_at, int_at, status_at, call_at, finish_is, last_of, payload_at};
@@ -8,7 +9,7 @@ ghost use Rattle.payload.specs.Exact.{PayloadsAsSaid, Skipped};
 use token::Token;
 use value::End;
 
-#[derive(Drop)]
+#[derive(Clone, Copy)]
 pub enum Payload {
     // a method of an object, both as numbers, with the values of its parameters from params on
     Call {
@@ -23,7 +24,7 @@ pub enum Payload {
     Broken,
 }
 
-#[derive(Drop)]
+#[derive(Clone, Copy)]
 enum Uid {
     Is { value: u64, next: usize },
     Broken,

@@ -1,4 +1,5 @@
 // Locking ranges: no two share a sector, every sector has one owner, and a transfer passes where no owner is locked.
+#![tactic(auto)]
 ghost use Rattle.std.specs.Prelude.{◌≡◌, true, ℕ, ◌+◌, ◌<◌, ◌≤◌, ltb};
 ghost use Rattle.ranges.specs.Decides.{Decides, imp};
 ghost use Rattle.ranges.specs.Row.{Holds, holds_b};
@@ -16,7 +17,7 @@ pub const ROWS: usize = 5;
 // The first sector past the shadow.
 const SHADOW_END: u64 = 262144;
 
-#[derive(Drop)]
+#[derive(Clone, Copy)]
 pub struct Row {
     pub start: u64,
     pub length: u64,
@@ -29,7 +30,7 @@ pub struct Row {
 }
 
 // The MBRControl row.
-#[derive(Drop)]
+#[derive(Clone, Copy)]
 pub struct Mbr {
     pub enable: bool,
     pub done: bool,
@@ -38,21 +39,21 @@ pub struct Mbr {
 }
 
 // A column of a Set that is a number: left out, or its new value.
-#[derive(Drop)]
+#[derive(Clone, Copy)]
 pub enum Number {
     Keep,
     To(u64),
 }
 
 // A column that is a flag.
-#[derive(Drop)]
+#[derive(Clone, Copy)]
 pub enum Flag {
     Keep,
     To(bool),
 }
 
 // What a Set asks for: columns 3 to 9.
-#[derive(Drop)]
+#[derive(Clone, Copy)]
 pub struct Edit {
     pub start: Number,
     pub length: Number,
@@ -63,13 +64,13 @@ pub struct Edit {
     pub lock_on_program: Flag,
 }
 
-#[derive(Drop)]
+#[derive(Clone, Copy)]
 pub struct Judged {
     pub ok: bool,
     pub rows: [Row; ROWS],
 }
 
-#[derive(Drop)]
+#[derive(Clone, Copy)]
 pub enum Verdict {
     Disk,
     Shadow,

@@ -1,5 +1,6 @@
 // Whole values in memory that the caller lends: a tape of nodes, three words each, in the order of the tokens.
 // Both ways are all or nothing: a value is judged and measured first, and only then is anything written.
+#![tactic(auto)]
 ghost use Rattle.std.specs.Prelude.{◌≡◌, [], ◌∷◌, true, ◌+◌, ◌*◌, ◌<◌, ◌≤◌, length};
 ghost use Rattle.token.specs.Bytes.{over};
 ghost use Rattle.token.specs.Write.{put_all};
@@ -16,7 +17,7 @@ use value::{End, Source};
 // How deep lists and named values nest.
 const DEPTH: usize = 16;
 
-#[derive(Drop)]
+#[derive(Clone, Copy)]
 pub enum Took {
     // the node after the value's, and the byte after it
     At { node: usize, next: usize },

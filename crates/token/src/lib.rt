@@ -1,4 +1,5 @@
 // TCG tokens: one read at a place of a slice, and atoms and control tokens written at a place of a buffer.
+#![tactic(auto)]
 ghost use Rattle.std.specs.Prelude.{◌≡◌, true, false, [], ◌∷◌, ◌+◌, ◌*◌, ◌<◌, ◌≤◌, length, drop, take, ltb};
 ghost use Rattle.token.specs.Bytes.{be_val, number_at, be_of, over};
 ghost use Rattle.token.specs.Token.{is_control, lead_of, atom_of, token_at};
@@ -7,7 +8,7 @@ ghost use Rattle.token.specs.Laws.{ReadBack, Shortest, Inside, Skipped};
 ghost use Rattle.token.specs.Exact.{FirstByte, TokensAsSaid};
 
 // What the first byte says.
-#[derive(Drop)]
+#[derive(Clone, Copy)]
 pub enum Lead {
     // 00-3F: its own value
     Tiny,
@@ -25,7 +26,7 @@ pub enum Lead {
     Broken,
 }
 
-#[derive(Drop)]
+#[derive(Clone, Copy)]
 pub enum Token {
     Int {
         value: u64,
@@ -46,7 +47,7 @@ pub enum Token {
 }
 
 // Where what was put ends; or nothing was put, for want of room or because it is outside the limits.
-#[derive(Drop)]
+#[derive(Clone, Copy)]
 pub enum Put {
     At(usize),
     Full,

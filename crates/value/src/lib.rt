@@ -1,4 +1,5 @@
 // Values: where an atom, a list or a named value ends, nested to a given depth, in bytes or on a tape of nodes.
+#![tactic(auto)]
 ghost use Rattle.std.specs.Prelude.{◌≡◌, ◌+◌, ◌*◌};
 ghost use Rattle.token.specs.Token.{token_at};
 ghost use Rattle.value.specs.Read.{end_of, mark_of, atom_is, value_at, opened_in, values_at};
@@ -7,14 +8,14 @@ ghost use Rattle.value.specs.Laws.{ListStep, Inside, Skipped};
 
 use token::Token;
 
-#[derive(Drop)]
+#[derive(Clone, Copy)]
 pub enum End {
     At(usize),
     Broken,
 }
 
 // Where the tokens stand: in the bytes, or on the tape, whose byte strings are in the bytes.
-#[derive(Drop)]
+#[derive(Clone, Copy)]
 pub enum Source {
     Bytes,
     Tape,

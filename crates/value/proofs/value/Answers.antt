@@ -1,0 +1,7 @@
+-- `value` is `opened` by the token that stands there.
+use mathlib.Core.Path.{refl, sym}
+use Rattle.value.proofs.Values.{value-by}
+use Rattle.value.proofs.value.Goals as goal
+
+pub returns : goal.returns
+returns c = sym (value-by _ _ _ _ c.token_from-t.ensures c.opened.ensures refl)
