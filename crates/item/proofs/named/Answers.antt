@@ -1,6 +1,4 @@
 -- `named` sees a named value by its name, and by its value where the name is an integer.
-use mathlib.Core.List.{[], ◌∷◌}
-use types.Run.{miss}
 use Rattle.item.proofs.Faces.{named-int, named_other}
 use Rattle.item.proofs.named.Goals as goal
 
@@ -8,4 +6,4 @@ pub returns-in-Int : goal.returns-in-Int
 returns-in-Int c = named-int c.args.s.now _ _ c.read-t.ensures _ _ _ c.in-Int.is c.read-u.ensures c.flat-x.ensures
 
 pub returns-in_default : goal.returns-in_default
-returns-in_default c = named_other c.args.s.now _ _ c.read-t.ensures (λ n r h. miss (1 ∷ 2 ∷ 3 ∷ 4 ∷ []) 0 tt (rw h at c.in_default.in_default-own.keys2))
+returns-in_default c = named_other c.args.s.now _ _ c.read-t.ensures c.in_default.not-Int

@@ -5,10 +5,9 @@ use Rattle.params.proofs.ExactKinds.{none_left}
 use Rattle.params.proofs.ExactShapes as shapes
 use Rattle.params.proofs.ExactSet.{set_is}
 use Rattle.params.proofs.ExactColumns.{set_only}
-use Rattle.params.proofs.law_parameters.Statement.{statement}
-use Rattle.params.proofs.law_parameters.Tie as tie
+use Rattle.params.proofs.law_parameters.Goals as goal
 
-returns : tie.Need-returns
+pub returns : goal.returns
 unfolding nothing
 returns c = record {
   start = shapes.start_is;
@@ -24,6 +23,3 @@ returns c = record {
   resets = shapes.resets-are;
   resets_only = shapes.resets_only;
 }
-
-pub law-parameters-spec : {M : Type 1} → statement M
-law-parameters-spec = tie.close (tie.spec returns)
