@@ -21,7 +21,7 @@ use Rattle.model.specs.declared.Status.{Status}
 use Rattle.model.specs.declared.Status.TheVariants as E
 use Rattle.model.specs.Uids.{uid_of, manager_uid}
 use Rattle.model.specs.Access.{has_column}
-use Rattle.model.specs.Answer.{status_number, number, flag, uid, one, two, resets, result, manager_call, pin_cell, range_cell, mbr_cell, cell_past0, cell, answer}
+use Rattle.model.specs.Answer.{status_number, number, flag, uid, one, two, resets, result_of, manager_call, pin_cell, range_cell, mbr_cell, cell_past0, cell, answer}
 use Rattle.answer.specs.Pieces.{ending, calling, column}
 
 -- ---- values
@@ -97,7 +97,7 @@ status-is E.LockedOut = refl
 status-is E.Fail = refl
 
 -- a result list of the values l, whose bytes are bs
-pub result-is : (l : Plains) (bs : List ℕ) (k : Status) → bs ++ (0xf1 ∷ []) ≡ enc_values l → (0xf0 ∷ bs) ++ ending k ≡ result l k
+pub result-is : (l : Plains) (bs : List ℕ) (k : Status) → bs ++ (0xf1 ∷ []) ≡ enc_values l → (0xf0 ∷ bs) ++ ending k ≡ result_of l k
 unfolding enc_value
 result-is l bs k e = rw (← e, ← status-is k) (sym (append_assoc (0xf0 ∷ bs) (0xf1 ∷ []) _))
 

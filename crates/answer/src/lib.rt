@@ -9,7 +9,7 @@ ghost use Rattle.model.specs.declared.Status.TheVariants as E;
 ghost use Rattle.model.specs.declared.Decision.TheVariants as D;
 ghost use Rattle.model.specs.Record.{tries_at, enabled_at};
 ghost use Rattle.model.specs.Uids.{sync_session};
-ghost use Rattle.model.specs.Answer.{status_number, flag, uid, one, two, resets, result, manager_call, pin_cell, range_cell, mbr_cell, cell, answer};
+ghost use Rattle.model.specs.Answer.{status_number, flag, uid, one, two, resets, result_of, manager_call, pin_cell, range_cell, mbr_cell, cell, answer};
 ghost use Rattle.answer.specs.Pieces.{Wrote, place_of, ending, calling, column, columns};
 
 use model::{Cells, Decision, Object, PINS, Status};
@@ -316,7 +316,7 @@ fn put_refused_start(out: &mut [u8], at: usize, k: Status) -> usize
 // An empty result list and a status.
 fn put_plain(out: &mut [u8], at: usize, k: Status) -> usize
     requires { at + 8 ≤ length out.old }
-    ensures* { λ r. ⌜ Wrote 8 out.old at (result none k) r out.new ⌝ }
+    ensures* { λ r. ⌜ Wrote 8 out.old at (result_of none k) r out.new ⌝ }
 {
     let p = put_byte(out, at, 0xf0);
     put_ending(out, p, k)
@@ -325,7 +325,7 @@ fn put_plain(out: &mut [u8], at: usize, k: Status) -> usize
 // SUCCESS with 0 or 1.
 fn put_one(out: &mut [u8], at: usize, on: bool) -> usize
     requires { at + 9 ≤ length out.old }
-    ensures* { λ r. ⌜ Wrote 9 out.old at (result (one (flag on)) E.Success) r out.new ⌝ }
+    ensures* { λ r. ⌜ Wrote 9 out.old at (result_of (one (flag on)) E.Success) r out.new ⌝ }
 {
     let p = put_byte(out, at, 0xf0);
     let q = put_flag(out, p, on);

@@ -23,7 +23,7 @@ use Rattle.model.specs.declared.Status.TheVariants as E
 use Rattle.model.specs.declared.Decision.TheVariants as D
 use Rattle.model.specs.Uids as U
 use Rattle.model.specs.Access.{access_rows, some_row, is_for, kind_of, self_of, holds, has_column, allowed_column}
-use Rattle.model.specs.Answer.{number, uid, one, two, resets, status_number, result, manager_call, cell_past0, cell, told, answer}
+use Rattle.model.specs.Answer.{number, uid, one, two, resets, status_number, result_of, manager_call, cell_past0, cell, told, answer}
 
 -- ---- no column past 19 is in a row of the access table
 few : (m c : ℕ) → m < 2 ^ 20 → 20 ≤ c → has_column m c ≡ false
@@ -148,7 +148,7 @@ list_length : (l : Plains) → length (enc_value (list l)) ≡ 1 + length (enc_v
 unfolding enc_value
 list_length l = omega arith
 
-result-short : (l : Plains) (k : Status) (n : ℕ) → length (enc_values l) ≤ n → length (result l k) ≤ n + 7
+result-short : (l : Plains) (k : Status) (n : ℕ) → length (enc_values l) ≤ n → length (result_of l k) ≤ n + 7
 result-short l k n h = simp length-append (omega (arith, list_length l, status-length k))
 
 call-short : (m : ℕ) (l : Plains) (k : Status) (n : ℕ) → length (enc_values l) ≤ n → length (manager_call m l k) ≤ n + 28
@@ -170,7 +170,7 @@ two-short a b = more-short (number a) (one (number b)) 34 35 (number_short a) (o
 get-short : (c : Cells) (o : Object) (n k : ℕ) → length c.msid ≡ 32 → length (enc_values (one (list (told c o n k)))) ≤ 903
 get-short c o n k h = more-short (list (told c o n k)) none 902 1 (omega (arith, told-short c o n k h, list_length (told c o n k))) none-short
 
-plain : (l : Plains) (k : Status) (n : ℕ) → length (enc_values l) ≤ n → n ≤ 903 → length (result l k) ≤ 1000
+plain : (l : Plains) (k : Status) (n : ℕ) → length (enc_values l) ≤ n → n ≤ 903 → length (result_of l k) ≤ 1000
 plain l k n h m = omega (arith, result-short l k n h)
 
 call : (m : ℕ) (l : Plains) (k : Status) (n : ℕ) → length (enc_values l) ≤ n → n ≤ 903 → length (manager_call m l k) ≤ 1000

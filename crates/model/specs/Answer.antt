@@ -38,12 +38,12 @@ abbrev pub resets : Bool → Plain
 resets program = list (more (number 0) (cond program (one (number 3)) none))
 
 -- "result list, F9, F0 status 00 00 F1"
-abbrev pub result : Plains → Status → List ℕ
-result l k = enc_value (list l) ++ (0xf9 ∷ enc_value (list (more (number (status_number k)) (more (number 0) (one (number 0))))))
+abbrev pub result_of : Plains → Status → List ℕ
+result_of l k = enc_value (list l) ++ (0xf9 ∷ enc_value (list (more (number (status_number k)) (more (number 0) (one (number 0))))))
 
 -- a call by the session manager
 abbrev pub manager_call : ℕ → Plains → Status → List ℕ
-manager_call m l k = 0xf8 ∷ (enc_atom (uid U.manager_uid) ++ (enc_atom (uid m) ++ result l k))
+manager_call m l k = 0xf8 ∷ (enc_atom (uid U.manager_uid) ++ (enc_atom (uid m) ++ result_of l k))
 
 abbrev pub two : ℕ → ℕ → Plains
 two a b = more (number a) (one (number b))
@@ -92,15 +92,15 @@ told c o (suc n) k =
     (told c o n (k + 1))
 
 unfoldable pub answer : Cells → Decision → List ℕ
-answer c (D.Refuse k) = result none k
+answer c (D.Refuse k) = result_of none k
 answer c (D.NotStarted k) = manager_call U.sync_session none k
 answer c (D.Missed r) = manager_call U.sync_session none E.NotAuthorized
 answer c (D.Started locking hsn w) = manager_call U.sync_session (two hsn.0 c.next.0) E.Success
-answer c D.Denied = result (one (number 0)) E.Success
-answer c (D.Mistaken r) = result (one (number 0)) E.Success
-answer c (D.Proved w) = result (one (number 1)) E.Success
-answer c (D.Told o first last) = result (one (list (told c o (last + 1 - first) first))) E.Success
-answer c (D.Done x) = result none E.Success
+answer c D.Denied = result_of (one (number 0)) E.Success
+answer c (D.Mistaken r) = result_of (one (number 0)) E.Success
+answer c (D.Proved w) = result_of (one (number 1)) E.Success
+answer c (D.Told o first last) = result_of (one (list (told c o (last + 1 - first) first))) E.Success
+answer c (D.Done x) = result_of none E.Success
 answer c D.Began = 0xfb ∷ 0x00 ∷ []
 answer c D.BeganAlready = 0xfb ∷ 0x01 ∷ []
 answer c D.Committed = 0xfc ∷ 0x00 ∷ []
