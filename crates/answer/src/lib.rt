@@ -35,7 +35,7 @@ const GET: u32 = 0x16;
 
 fn put_byte(out: &mut [u8], at: usize, b: u8) -> usize
     requires { at + 1 ≤ length out.old }
-    ensures* { λ r. ⌜ Wrote 1 out.old at (b ∷ []) r out.new ⌝ }
+    ensures { Wrote 1 out.old at (b ∷ []) result out.new }
 {
     out[at] = b;
     at + 1
@@ -43,7 +43,7 @@ fn put_byte(out: &mut [u8], at: usize, b: u8) -> usize
 
 // The place that a writer says, where there is room.
 fn place(p: Put, at: usize) -> usize
-    ensures* { λ r. ⌜ r ≡ place_of p at ⌝ }
+    ensures { result ≡ place_of p at }
 {
     match p {
         Put::At(q) => q,
@@ -54,7 +54,7 @@ fn place(p: Put, at: usize) -> usize
 
 fn put_int(out: &mut [u8], at: usize, v: u64) -> usize
     requires { at + 9 ≤ length out.old }
-    ensures* { λ r. ⌜ Wrote 9 out.old at (enc_int v) r out.new ⌝ }
+    ensures { Wrote 9 out.old at (enc_int v) result out.new }
 {
     let p = token::put_int(out, at, v);
     place(p, at)
@@ -62,7 +62,7 @@ fn put_int(out: &mut [u8], at: usize, v: u64) -> usize
 
 fn put_flag(out: &mut [u8], at: usize, on: bool) -> usize
     requires { at + 1 ≤ length out.old }
-    ensures* { λ r. ⌜ Wrote 1 out.old at (enc_value (flag on)) r out.new ⌝ }
+    ensures { Wrote 1 out.old at (enc_value (flag on)) result out.new }
 {
     if on {
         return put_byte(out, at, 1);
@@ -73,7 +73,7 @@ fn put_flag(out: &mut [u8], at: usize, on: bool) -> usize
 // A UID as eight bytes.
 fn put_uid(out: &mut [u8], at: usize, u: u64) -> usize
     requires { at + 9 ≤ length out.old }
-    ensures* { λ r. ⌜ Wrote 9 out.old at (enc_atom (uid u)) r out.new ⌝ }
+    ensures { Wrote 9 out.old at (enc_atom (uid u)) result out.new }
 {
     let a = put_byte(out, at, 0xa8);
     let p = token::put_number(out, a, 8, u);
@@ -83,7 +83,7 @@ fn put_uid(out: &mut [u8], at: usize, u: u64) -> usize
 // "{0} or {0, 3}, written ascending"
 fn put_resets(out: &mut [u8], at: usize, program: bool) -> usize
     requires { at + 4 ≤ length out.old }
-    ensures* { λ r. ⌜ Wrote 4 out.old at (enc_value (resets program)) r out.new ⌝ }
+    ensures { Wrote 4 out.old at (enc_value (resets program)) result out.new }
 {
     let a = put_byte(out, at, 0xf0);
     let b = put_byte(out, a, 0);
@@ -97,7 +97,7 @@ fn put_resets(out: &mut [u8], at: usize, program: bool) -> usize
 // ---- the cells of each object by their columns; each takes 34 bytes at the most
 
 fn tries_at(c: Cells, r: usize) -> u8
-    ensures* { λ k. ⌜ k ≡ tries_at c r ⌝ }
+    ensures { result ≡ tries_at c r }
 {
     if r < PINS {
         let row = c.pins[r];
@@ -109,7 +109,7 @@ fn tries_at(c: Cells, r: usize) -> u8
 // "TryLimit is 5", Tries, "Persistence False"
 fn put_pin_cell(out: &mut [u8], at: usize, c: Cells, row: usize, k: u8) -> usize
     requires { at + 9 ≤ length out.old }
-    ensures* { λ r. ⌜ Wrote 9 out.old at (enc_value (pin_cell c row k)) r out.new ⌝ }
+    ensures { Wrote 9 out.old at (enc_value (pin_cell c row k)) result out.new }
 {
     if k == 5 {
         return put_byte(out, at, 5);
@@ -122,7 +122,7 @@ fn put_pin_cell(out: &mut [u8], at: usize, c: Cells, row: usize, k: u8) -> usize
 }
 
 fn is_enabled(c: Cells, r: usize) -> bool
-    ensures* { λ b. ⌜ b ≡ enabled_at c.tables r ⌝ }
+    ensures { result ≡ enabled_at c.tables r }
 {
     let t = c.tables;
     if r < PINS {
@@ -132,7 +132,7 @@ fn is_enabled(c: Cells, r: usize) -> bool
 }
 
 fn row_at(c: Cells, k: usize) -> Row
-    ensures* { λ r. ⌜ r ≡ row_at c.tables.rows k ⌝ }
+    ensures { result ≡ row_at c.tables.rows k }
 {
     let t = c.tables;
     if k < ROWS {
@@ -151,7 +151,7 @@ fn row_at(c: Cells, k: usize) -> Row
 
 fn put_range_cell(out: &mut [u8], at: usize, row: Row, k: u8) -> usize
     requires { at + 9 ≤ length out.old }
-    ensures* { λ r. ⌜ Wrote 9 out.old at (enc_value (range_cell row k)) r out.new ⌝ }
+    ensures { Wrote 9 out.old at (enc_value (range_cell row k)) result out.new }
 {
     match k {
         3 => put_int(out, at, row.start),
@@ -166,7 +166,7 @@ fn put_range_cell(out: &mut [u8], at: usize, row: Row, k: u8) -> usize
 
 fn put_mbr_cell(out: &mut [u8], at: usize, m: Mbr, k: u8) -> usize
     requires { at + 4 ≤ length out.old }
-    ensures* { λ r. ⌜ Wrote 4 out.old at (enc_value (mbr_cell m k)) r out.new ⌝ }
+    ensures { Wrote 4 out.old at (enc_value (mbr_cell m k)) result out.new }
 {
     match k {
         1 => put_flag(out, at, m.enable),
@@ -177,7 +177,7 @@ fn put_mbr_cell(out: &mut [u8], at: usize, m: Mbr, k: u8) -> usize
 
 fn put_msid(out: &mut [u8], at: usize, c: Cells) -> usize
     requires { at + 34 ≤ length out.old }
-    ensures* { λ r. ⌜ Wrote 34 out.old at (enc_atom (bytes c.msid)) r out.new ⌝ }
+    ensures { Wrote 34 out.old at (enc_atom (bytes c.msid)) result out.new }
 {
     let msid = c.msid;
     let p = token::put_bytes(out, at, &msid);
@@ -186,7 +186,7 @@ fn put_msid(out: &mut [u8], at: usize, c: Cells) -> usize
 
 fn put_cell(out: &mut [u8], at: usize, c: Cells, o: Object, k: u8) -> usize
     requires { at + 34 ≤ length out.old }
-    ensures* { λ r. ⌜ Wrote 34 out.old at (enc_value (cell c o k)) r out.new ⌝ }
+    ensures { Wrote 34 out.old at (enc_value (cell c o k)) result out.new }
 {
     // column 0 is the row's UID
     if k == 0 {
@@ -223,7 +223,7 @@ fn put_cell(out: &mut [u8], at: usize, c: Cells, o: Object, k: u8) -> usize
 // A column with its name, where the set has it.
 fn put_column(out: &mut [u8], at: usize, set: u32, c: Cells, o: Object, k: u8) -> usize
     requires { at + 45 ≤ length out.old }
-    ensures* { λ r. ⌜ Wrote 45 out.old at (column set c o k) r out.new ⌝ }
+    ensures { Wrote 45 out.old at (column set c o k) result out.new }
 {
     if access::has_column(set, k) {
         let a = put_byte(out, at, 0xf2);
@@ -237,7 +237,7 @@ fn put_column(out: &mut [u8], at: usize, set: u32, c: Cells, o: Object, k: u8) -
 // "Get leaves out columns not allowed and lists the rest ascending": the inner list, from first to last.
 fn put_columns(out: &mut [u8], at: usize, c: Cells, o: Object, first: u8, last: u8) -> usize
     requires { at + 1000 ≤ length out.old }
-    ensures* { λ r. ⌜ Wrote 902 out.old at (columns c o first last) r out.new ⌝ }
+    ensures { Wrote 902 out.old at (columns c o first last) result out.new }
 {
     let session = c.session;
     let allowed = access::look_up(session, o, GET);
@@ -254,7 +254,7 @@ fn put_columns(out: &mut [u8], at: usize, c: Cells, o: Object, first: u8, last: 
 // ---- answers
 
 fn status_number(k: Status) -> u8
-    ensures* { λ r. ⌜ r ≡ status_number k ⌝ }
+    ensures { result ≡ status_number k }
 {
     match k {
         Status::Success => 0x00,
@@ -269,7 +269,7 @@ fn status_number(k: Status) -> u8
 // The result list's end, "F9, F0 status 00 00 F1".
 fn put_ending(out: &mut [u8], at: usize, k: Status) -> usize
     requires { at + 7 ≤ length out.old }
-    ensures* { λ r. ⌜ Wrote 7 out.old at (ending k) r out.new ⌝ }
+    ensures { Wrote 7 out.old at (ending k) result out.new }
 {
     let status = status_number(k);
     out[at] = 0xf1;
@@ -285,7 +285,7 @@ fn put_ending(out: &mut [u8], at: usize, k: Status) -> usize
 // A call by the session manager, up to its list.
 fn put_calling(out: &mut [u8], at: usize, method: u64) -> usize
     requires { at + 20 ≤ length out.old }
-    ensures* { λ r. ⌜ Wrote 20 out.old at (calling method) r out.new ⌝ }
+    ensures { Wrote 20 out.old at (calling method) result out.new }
 {
     let a = put_byte(out, at, 0xf8);
     let b = put_uid(out, a, MANAGER);
@@ -296,7 +296,7 @@ fn put_calling(out: &mut [u8], at: usize, method: u64) -> usize
 // A call by the session manager with two numbers.
 fn put_two(out: &mut [u8], at: usize, method: u64, a: u32, b: u32) -> usize
     requires { at + 45 ≤ length out.old }
-    ensures* { λ r. ⌜ Wrote 45 out.old at (manager_call method (two a b) E.Success) r out.new ⌝ }
+    ensures { Wrote 45 out.old at (manager_call method (two a b) E.Success) result out.new }
 {
     let p = put_calling(out, at, method);
     let q = put_int(out, p, a as u64);
@@ -307,7 +307,7 @@ fn put_two(out: &mut [u8], at: usize, method: u64, a: u32, b: u32) -> usize
 // SyncSession with no numbers.
 fn put_refused_start(out: &mut [u8], at: usize, k: Status) -> usize
     requires { at + 27 ≤ length out.old }
-    ensures* { λ r. ⌜ Wrote 27 out.old at (manager_call sync_session none k) r out.new ⌝ }
+    ensures { Wrote 27 out.old at (manager_call sync_session none k) result out.new }
 {
     let p = put_calling(out, at, SYNC_SESSION);
     put_ending(out, p, k)
@@ -316,7 +316,7 @@ fn put_refused_start(out: &mut [u8], at: usize, k: Status) -> usize
 // An empty result list and a status.
 fn put_plain(out: &mut [u8], at: usize, k: Status) -> usize
     requires { at + 8 ≤ length out.old }
-    ensures* { λ r. ⌜ Wrote 8 out.old at (result_of none k) r out.new ⌝ }
+    ensures { Wrote 8 out.old at (result_of none k) result out.new }
 {
     let p = put_byte(out, at, 0xf0);
     put_ending(out, p, k)
@@ -325,7 +325,7 @@ fn put_plain(out: &mut [u8], at: usize, k: Status) -> usize
 // SUCCESS with 0 or 1.
 fn put_one(out: &mut [u8], at: usize, on: bool) -> usize
     requires { at + 9 ≤ length out.old }
-    ensures* { λ r. ⌜ Wrote 9 out.old at (result_of (one (flag on)) E.Success) r out.new ⌝ }
+    ensures { Wrote 9 out.old at (result_of (one (flag on)) E.Success) result out.new }
 {
     let p = put_byte(out, at, 0xf0);
     let q = put_flag(out, p, on);
@@ -335,7 +335,7 @@ fn put_one(out: &mut [u8], at: usize, on: bool) -> usize
 // A control token and how it went.
 fn put_control(out: &mut [u8], at: usize, code: u8, how: u8) -> usize
     requires { at + 2 ≤ length out.old }
-    ensures* { λ r. ⌜ Wrote 2 out.old at (code ∷ how ∷ []) r out.new ⌝ }
+    ensures { Wrote 2 out.old at (code ∷ how ∷ []) result out.new }
 {
     let p = put_byte(out, at, code);
     put_byte(out, p, how)
@@ -344,7 +344,7 @@ fn put_control(out: &mut [u8], at: usize, code: u8, how: u8) -> usize
 // A Get's answer.
 fn put_told(out: &mut [u8], at: usize, c: Cells, o: Object, first: u8, last: u8) -> usize
     requires { at + 1001 ≤ length out.old }
-    ensures* { λ r. ⌜ Wrote 910 out.old at (answer c (D.Told o first last)) r out.new ⌝ }
+    ensures { Wrote 910 out.old at (answer c (D.Told o first last)) result out.new }
 {
     let p = put_byte(out, at, 0xf0);
     let q = put_columns(out, p, c, o, first, last);
@@ -354,7 +354,7 @@ fn put_told(out: &mut [u8], at: usize, c: Cells, o: Object, first: u8, last: u8)
 // The payload, where there is room; the place after it.
 fn put_answer(out: &mut [u8], c: Cells, d: Decision) -> usize
     requires { 2048 ≤ length out.old }
-    ensures* { λ r. ⌜ Wrote 910 out.old 56 (answer c d) r out.new ⌝ }
+    ensures { Wrote 910 out.old 56 (answer c d) result out.new }
 {
     match d {
         Decision::Refuse(k) => put_plain(out, START, k),
@@ -394,8 +394,8 @@ fn put_answer(out: &mut [u8], c: Cells, d: Decision) -> usize
 
 // Writes the payload that answers a decision from byte 56 on, and says how long it is. In less room than an answer may need, nothing is written.
 pub fn answer(out: &mut [u8], c: Cells, d: Decision) -> usize
-    ensures* count { λ r. ⌜ r ≡ cond (leb 2048 (length out.old)) (length (answer c d)) 0 ⌝ }
-    ensures* buffer { λ _. ⌜ out.new ≡ cond (leb 2048 (length out.old)) (over out.old 56 (answer c d)) out.old ⌝ }
+    ensures count { result ≡ cond (leb 2048 (length out.old)) (length (answer c d)) 0 }
+    ensures buffer { out.new ≡ cond (leb 2048 (length out.old)) (over out.old 56 (answer c d)) out.old }
 {
     if out.len() < ROOM {
         return 0;
