@@ -1,4 +1,6 @@
 // The simulator's text: a line is read as one question to the card, and bytes and numbers are written as text.
+#![tactic(auto)]
+
 mod chars;
 mod lines;
 mod params;

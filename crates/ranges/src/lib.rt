@@ -1,5 +1,6 @@
 // Locking ranges: no two share a sector, every sector has one owner, and a transfer passes where no owner is locked.
 #![tactic(auto)]
+
 ghost use Rattle.std.specs.Prelude.{◌≡◌, true, ℕ, ◌+◌, ◌<◌, ◌≤◌, ltb};
 ghost use Rattle.ranges.specs.Decides.{Decides, imp};
 ghost use Rattle.ranges.specs.Row.{Holds, holds_b};

@@ -1,6 +1,5 @@
-use Prim.Native.Nat.{◌<◌, ◌-◌}
-use mathlib.Core.Path.{◌≡◌, sym, ◌∙◌}
-use lib.ListN.{length}
+use Prim.Native.Nat.{◌<◌}
+use mathlib.Core.Path.{sym, ◌∙◌}
 use native.Mathlib.Omega.{arith}
 use Rattle.ranges.specs.Row.{row_count}
 use Rattle.ranges.proofs.Owners.{owns}
@@ -11,8 +10,7 @@ use Rattle.ranges.proofs.clear.Goals.{After-owner-o}
 -- the owner is a row
 owner-lt : (c : After-owner-o) → c.owner-o.result < row_count
 owner-lt c =
-    let long : length c.args.t1 ≡ row_count = c.well-formed.0.1.0.1 in
-    omega (arith, c.owner-o.ensures, (owns c.args.t1 c.loop-at.at (omega arith)).within)
+    omega (arith, c.owner-o.ensures, (owns c.args.rows c.loop-at.at (omega arith)).within)
 
 pub overflow_add-end : goal.overflow_add-end
 overflow_add-end c = omega arith

@@ -1,18 +1,9 @@
-use Prim.Native.Nat.{◌-◌}
-use mathlib.Core.Path.{◌≡◌, refl}
-use mathlib.Core.Bool.{true}
+use mathlib.Core.Path.{refl}
 use native.Mathlib.Omega.{arith}
-use lib.ListN.{length}
-use borrow.Author.Tests.{not-true, not-false}
 use borrow.Author.Count.{below_more}
-use Rattle.ranges.specs.Row.{row_count}
 use Rattle.ranges.proofs.Decide.{from-true, from_false}
 use Rattle.ranges.proofs.Fitted.{fit-from}
 use Rattle.ranges.proofs.fits.Goals as goal
-use Rattle.ranges.proofs.fits.Goals.{Start}
-
-long : (c : Start) → length c.args.t1 ≡ row_count
-long c = c.well-formed.0.1.0.1
 
 pub pairs-init : goal.pairs-init
 pairs-init c = (omega arith, omega arith, refl, (λ k l o. absurd (omega arith)))
@@ -45,7 +36,7 @@ loop-j-preserved c =
       omega arith,
       omega arith,
       loop.invariant.2,
-      below_more _ _ loop.invariant.3 (λ o. apart.ensures.holds (not-false _ c.if-not-apart.false)),
+      below_more _ _ loop.invariant.3 (λ o. apart.ensures.holds c.if-not-apart.false),
     )
 
 pub overflow_add-i : goal.overflow_add-i
@@ -61,21 +52,18 @@ pairs-preserved c =
       omega arith,
       omega arith,
       loop.invariant.2,
-      below_more _ _ pairs.invariant.3 (λ o. (c.within.ensures.holds (not-false _ c.if-not-within.false), (λ j m p. loop.invariant.3 j (omega arith) p))),
+      below_more _ _ pairs.invariant.3 (λ o. (c.within.ensures.holds c.if-not-within.false, (λ j m p. loop.invariant.3 j (omega arith) p))),
     )
 
 pub returns-after-pairs : goal.returns-after-pairs
 returns-after-pairs c =
     let pairs = c.pairs in
-    let rows = long ((goal.at.returns-after-pairs c).Start) in
     from-true pairs.invariant.2 (fit-from _ _ pairs.i (omega arith) pairs.invariant.3)
 
 pub returns-then-not-within : goal.returns-then-not-within
 returns-then-not-within c =
-    let rows = long ((goal.at.returns-then-not-within c).Start) in
-    from_false refl (λ f. c.within.ensures.fails (not-true _ c.if-not-within.true) (f.ends c.pairs.i (omega arith) (omega arith)))
+    from_false refl (λ f. c.within.ensures.fails c.if-not-within.true (f.ends c.pairs.i (omega arith) (omega arith)))
 
 pub returns-then-not-apart : goal.returns-then-not-apart
 returns-then-not-apart c =
-    let rows = long ((goal.at.returns-then-not-apart c).Start) in
-    from_false refl (λ f. c.apart.ensures.fails (not-true _ c.if-not-apart.true) (f.apart c.pairs.i c.loop-j.j (omega arith) (omega arith) (omega arith)))
+    from_false refl (λ f. c.apart.ensures.fails c.if-not-apart.true (f.apart c.pairs.i c.loop-j.j (omega arith) (omega arith) (omega arith)))

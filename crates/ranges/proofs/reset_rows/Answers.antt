@@ -1,14 +1,7 @@
-use Prim.Native.Nat.{◌-◌}
-use mathlib.Core.Path.{◌≡◌, refl, ◌∙◌}
-use lib.ListN.{length}
+use mathlib.Core.Path.{refl, ◌∙◌}
 use native.Mathlib.Omega.{arith}
-use Rattle.ranges.specs.Row.{row_count}
 use Rattle.ranges.proofs.Mapped.{map-none, map_more, map-all, reset-on, reset-off}
 use Rattle.ranges.proofs.reset_rows.Goals as goal
-use Rattle.ranges.proofs.reset_rows.Goals.{Start}
-
-long : (c : Start) → length c.args.rows ≡ row_count
-long c = c.well-formed.1.0.1.0.1
 
 pub loop-i-init : goal.loop-i-init
 loop-i-init c = (omega arith, map-none _ _)
@@ -33,12 +26,10 @@ loop-i-smaller c = omega arith
 
 pub loop-i-preserved : goal.loop-i-preserved
 loop-i-preserved c =
-    let rows = long ((goal.at.loop-i-preserved c).Start) in
     (omega arith, map_more _ _ _ _ _ (omega arith) c.loop-i.invariant.1 refl)
 
 pub returns-after-loop-i : goal.returns-after-loop-i
 returns-after-loop-i c =
-    let rows = long ((goal.at.returns-after-loop-i c).Start) in
     map-all _ _ _ c.loop-i.i (omega arith) c.loop-i.invariant.1 ∙ reset-on _ c.if-active.true
 
 pub returns-else-active : goal.returns-else-active

@@ -1,8 +1,5 @@
-use Prim.Native.Nat.{◌-◌}
-use mathlib.Core.Path.{◌≡◌, sym, ◌∙◌}
-use lib.ListN.{length}
+use mathlib.Core.Path.{sym, ◌∙◌}
 use native.Mathlib.Omega.{arith}
-use Rattle.ranges.specs.Row.{row_count}
 use Rattle.ranges.proofs.Owners.{owner-one, owner-alike, owner-done}
 use Rattle.ranges.proofs.run_end.Goals as goal
 
@@ -38,5 +35,4 @@ loop-i-preserved c =
 pub returns : goal.returns
 returns c =
     let loop = c.loop-i in
-    let long : length c.args.t1 ≡ row_count = c.well-formed.0.1.0.1 in
     (loop.invariant.2, loop.invariant.3, (λ s a b. owner-done _ _ _ _ (omega arith) (loop.invariant.4 s a b)))
