@@ -13,7 +13,7 @@ ghost use Rattle.desk.specs.Desk.{new_card, commanded, numbered, loaded, directi
 use line::{Line, Why};
 
 // What comes of a line: whether a card is in hand, and how long the text is; a line that is passed over has none.
-#[derive(Drop)]
+#[derive(Clone, Copy)]
 pub struct After {
     pub there: bool,
     pub count: usize,

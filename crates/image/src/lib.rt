@@ -51,7 +51,7 @@ const AT_LIVE: usize = AT_WAS + TABLES;
 const AT_KEPT: usize = AT_LIVE + PIN * PINS;
 
 // What an image was read as; the card is an unsound one where it was refused.
-#[derive(Drop)]
+#[derive(Clone, Copy)]
 pub struct Loaded {
     pub ok: bool,
     pub card: Card,

@@ -1,6 +1,6 @@
 -- A Get lists exactly the columns that may be told, each with its cell's value.
 use Prim.Native.Nat.{ℕ, zero, suc, ◌+◌, ◌-◌, ◌≤◌, ◌<◌}
-use mathlib.Core.Path.{◌≡◌, refl, ap}
+use mathlib.Core.Path.{◌≡◌, refl, ap, sym, subst}
 use mathlib.Core.Bool.{Bool, true, false, cond}
 use mathlib.Core.List.{[], ◌∷◌}
 use mathlib.Core.Logic.{◌⊎◌, inl, inr, ⊎_elim}
@@ -87,7 +87,10 @@ module _ (j : Card) (c : ℕ) where
   entry : (u : ℕ) (o : Object) → U.uid_of o ≡ u → MayGet j.cells.session o c → Entry c (A.cell j.cells o c) (F.at 0 (atom (bytes (be_of 8 u))) ∷ F.cells_past0 j o)
   entry u o e h =
       ⊎_elim (λ z. inl (z, rw z (ap (λ x. atom (bytes (be_of 8 x))) e)))
-      (λ p. let l : 1 ≤ c = p.0 in inr (rw (is_false (eqb c 0) (dec-eq c 0) (λ (e : c ≡ 0). omega arith)) p.1)) (past o h)
+      (λ p.
+      let l : 1 ≤ c = p.0 in
+      let same : A.cell j.cells o c ≡ cell_past0 j.cells o c = rw (is_false (eqb c 0) (dec-eq c 0) (λ (e : c ≡ 0). omega arith)) in
+      inr (subst (λ (v : Plain). Entry c v (F.cells_past0 j o)) (sym same) p.1)) (past o h)
 
 -- ---- the list
 module _ (j : Card) (u : ℕ) (o : Object) (uid : (c : ℕ) → MayGet j.cells.session o c → U.uid_of o ≡ u)

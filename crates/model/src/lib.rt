@@ -1,4 +1,6 @@
 // The card's record and the words of its decisions. Document 01's rules and the laws over them are in specs/, in the order of docs/BELIEVE.md.
+#![tactic(auto)]
+
 ghost use Rattle.std.specs.Prelude.{◌≡◌};
 ghost use Rattle.model.specs.Apply.{missed_row, proved_session};
 ghost use Rattle.model.specs.Laws.{SoundDecided, AlwaysSound, RangesApart, TurnedAway, Secrecy, RefusedKeeps, AbandonPutsBack, CommitKeeps, NothingShows};
@@ -33,7 +35,7 @@ pub const PIN_BYTES: usize = 32;
 pub const TRY_LIMIT: u8 = 5;
 
 // What a transaction puts back, PINs aside.
-#[derive(Drop)]
+#[derive(Clone, Copy)]
 pub struct Tables {
     // the Locking SP's LifeCycle: 9 if set, 8 if not
     pub active: bool,
@@ -51,7 +53,7 @@ pub struct PinRow {
     pub tries: u8,
 }
 
-#[derive(Drop)]
+#[derive(Clone, Copy)]
 pub struct Session {
     pub live: bool,
     // to the Locking SP, or else to the Admin SP
@@ -62,14 +64,14 @@ pub struct Session {
 }
 
 // An open transaction, and the tables from before it.
-#[derive(Drop)]
+#[derive(Clone, Copy)]
 pub struct Undo {
     pub live: bool,
     pub was: Tables,
 }
 
 // Every cell that is no PIN. The MSID is printed on the card.
-#[derive(Drop)]
+#[derive(Clone, Copy)]
 pub struct Cells {
     pub n: u64,
     pub msid: [u8; PIN_BYTES],
@@ -82,20 +84,20 @@ pub struct Cells {
 }
 
 // A PIN: its first len bytes, and zeros after them.
-#[derive(Drop)]
+#[derive(Clone, Copy)]
 pub struct Secret {
     pub bytes: [u8; PIN_BYTES],
     pub len: u8,
 }
 
 // The PINs, and their copies from before an open transaction.
-#[derive(Drop)]
+#[derive(Clone, Copy)]
 pub struct Vault {
     pub live: [Secret; PINS],
     pub kept: [Secret; PINS],
 }
 
-#[derive(Drop)]
+#[derive(Clone, Copy)]
 pub struct Card {
     pub cells: Cells,
     pub vault: Vault,
@@ -211,7 +213,7 @@ pub enum Judged {
 }
 
 // What comes back of a request or a reset: the number, the count of answer bytes, and the record after it.
-#[derive(Drop)]
+#[derive(Clone, Copy)]
 pub struct Outcome {
     pub number: u8,
     pub count: usize,

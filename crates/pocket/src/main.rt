@@ -6,7 +6,7 @@ use desk::cut;
 use libc::{EINTR, STDIN_FILENO, STDOUT_FILENO};
 
 // What is kept between lines: whether a card is in hand, how much of the next line is there, and whether every answer was written.
-#[derive(Drop)]
+#[derive(Clone, Copy)]
 struct State {
     there: bool,
     len: usize,
