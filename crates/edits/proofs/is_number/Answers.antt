@@ -1,0 +1,24 @@
+-- `is_number` meets its contract, case by case.
+use mathlib.Core.Path.{sym, ◌∙◌}
+use Rattle.model.specs.Judge.{is_number}
+use Rattle.edits.proofs.is_number.Goals as goal
+
+pub returns-in-Absent : goal.returns-in-Absent
+unfolding is_number
+returns-in-Absent c = simp (sym c.column-x.ensures ∙ c.in-Absent.is)
+
+pub returns-in-Int : goal.returns-in-Int
+unfolding is_number
+returns-in-Int c = simp (sym c.column-x.ensures ∙ c.in-Int.is)
+
+pub returns-in-Bytes : goal.returns-in-Bytes
+unfolding is_number
+returns-in-Bytes c = simp (sym c.column-x.ensures ∙ c.in-Bytes.is)
+
+pub returns-in-List : goal.returns-in-List
+unfolding is_number
+returns-in-List c = simp (sym c.column-x.ensures ∙ c.in-List.is)
+
+pub returns-in-Named : goal.returns-in-Named
+unfolding is_number
+returns-in-Named c = simp (sym c.column-x.ensures ∙ c.in-Named.is)

@@ -1,0 +1,24 @@
+-- `is_pin` meets its contract, case by case.
+use mathlib.Core.Path.{sym, ◌∙◌}
+use Rattle.model.specs.Judge.{is_pin}
+use Rattle.edits.proofs.is_pin.Goals as goal
+
+pub returns-in-Absent : goal.returns-in-Absent
+unfolding is_pin
+returns-in-Absent c = simp (sym c.column-x.ensures ∙ c.in-Absent.is)
+
+pub returns-in-Int : goal.returns-in-Int
+unfolding is_pin
+returns-in-Int c = simp (sym c.column-x.ensures ∙ c.in-Int.is)
+
+pub returns-in-Bytes : goal.returns-in-Bytes
+unfolding is_pin
+returns-in-Bytes c = simp (sym c.column-x.ensures ∙ c.in-Bytes.is)
+
+pub returns-in-List : goal.returns-in-List
+unfolding is_pin
+returns-in-List c = simp (sym c.column-x.ensures ∙ c.in-List.is)
+
+pub returns-in-Named : goal.returns-in-Named
+unfolding is_pin
+returns-in-Named c = simp (sym c.column-x.ensures ∙ c.in-Named.is)
