@@ -1,0 +1,16 @@
+-- `put_tables` writes the tables, part behind part.
+use native.Mathlib.Omega.{arith}
+use Rattle.image.specs.Write.{tables_of}
+use Rattle.image.proofs.Puts.{behind, sized}
+use mathlib.Core.Path.{◌≡◌}
+use lib.ListN.{length}
+use borrow.Author.Rules.{rules}
+use Rattle.image.proofs.put_tables.Goals as goal
+
+pub returns : goal.returns
+unfolding tables_of
+returns c = let many : length c.args.t.enabled ≡ 13 = search rules in
+    let one = behind _ _ _ _ _ _ _ _ 1 105 c.put_flag-a.ensures c.put_ranges-b.ensures (omega arith) in
+    let two = behind _ _ _ _ _ _ _ _ 106 3 one c.put_flags-c.ensures (omega arith) in
+    let three = behind _ _ _ _ _ _ _ _ 109 13 two (sized _ _ _ _ _ _ _ many c.put_flags-d.ensures) (omega arith) in
+    behind _ _ _ _ _ _ _ _ 122 1 three c.put_flag.ensures (omega arith)
