@@ -1,4 +1,8 @@
 // The bench figures and worked examples of bad input, each with what the card and its parts make of it.
+#![tactic(auto)]
+
+use std::io;
+
 mod ask;
 mod faults;
 mod host;
@@ -13,14 +17,14 @@ mod tokens;
 mod unsound;
 mod values;
 
-fn main() {
-    tokens::run();
-    values::run();
-    packets::run();
-    media::run();
-    session::run();
-    rows::run();
-    faults::run();
-    numbers::run();
-    unsound::run();
+fn main(rt: HostRuntime) -> io::Result<()> {
+    tokens::run(&rt)?;
+    values::run(&rt)?;
+    packets::run(&rt)?;
+    media::run(&rt)?;
+    session::run(&rt)?;
+    rows::run(&rt)?;
+    faults::run(&rt)?;
+    numbers::run(&rt)?;
+    unsound::run(&rt)
 }

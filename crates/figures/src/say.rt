@@ -1,43 +1,44 @@
 // What the figures are printed with.
+use std::io;
 
-pub(crate) fn text(s: &[u8]) {
-    io::write_all(1, s);
+pub(crate) fn text(rt: &impl Print, s: &[u8]) -> io::Result<()> {
+    rt.write_all(s)
 }
 
-pub(crate) fn number(v: u64) {
-    io::print_decimal(1, v);
+pub(crate) fn number(rt: &impl Print, v: u64) -> io::Result<()> {
+    rt.print(v)
 }
 
-pub(crate) fn size(v: usize) {
-    io::print_decimal(1, v as u64);
+pub(crate) fn size(rt: &impl Print, v: usize) -> io::Result<()> {
+    rt.print(v)
 }
 
-fn byte(b: u8) {
-    io::print_hex(1, b as u64, 2);
-    text(b" ");
+fn byte(rt: &impl Print, b: u8) -> io::Result<()> {
+    print!(rt; "{b:02x} ")
 }
 
 // The n bytes of s from byte first on, or those that are there.
-pub(crate) fn part(s: &[u8], first: usize, n: usize) {
+pub(crate) fn part(rt: &impl Print, s: &[u8], first: usize, n: usize) -> io::Result<()> {
     let mut i = 0;
     while i < s.len() {
         if first <= i {
             if i - first < n {
-                byte(s[i]);
+                byte(rt, s[i])?;
             }
         }
         i += 1;
     }
+    Ok(())
 }
 
 // The first n bytes of s, or all where it has fewer.
-pub(crate) fn some(s: &[u8], n: usize) {
-    part(s, 0, n);
+pub(crate) fn some(rt: &impl Print, s: &[u8], n: usize) -> io::Result<()> {
+    part(rt, s, 0, n)
 }
 
-pub(crate) fn hex(s: &[u8]) {
+pub(crate) fn hex(rt: &impl Print, s: &[u8]) -> io::Result<()> {
     if s.len() == 0 {
-        text(b"nothing ");
+        text(rt, b"nothing ")?;
     }
-    some(s, s.len());
+    some(rt, s, s.len())
 }

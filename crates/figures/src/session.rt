@@ -2,61 +2,65 @@
 use crate::{ask, host, say};
 use model::Card;
 use packet::{Hsn, Tsn};
+use std::io;
 
 // What came back, whole.
-fn came(number: u8, count: usize, answer: &[u8]) {
-    say::text(b"  number ");
-    say::number(number as u64);
-    say::text(b", ");
-    say::size(count);
-    say::text(b" bytes out");
+fn came(rt: &impl Print, number: u8, count: usize, answer: &[u8]) -> io::Result<()> {
+    say::text(rt, b"  number ")?;
+    say::number(rt, number as u64)?;
+    say::text(rt, b", ")?;
+    say::size(rt, count)?;
+    say::text(rt, b" bytes out")?;
     if host::untouched(answer, count) {
-        say::text(b", the rest untouched");
+        say::text(rt, b", the rest untouched")?;
     }
-    say::text(b"\n");
+    say::text(rt, b"\n")?;
     if number == 0 {
-        say::text(b"    ");
-        say::some(answer, count);
-        say::text(b"\n");
+        say::text(rt, b"    ")?;
+        say::some(rt, answer, count)?;
+        say::text(rt, b"\n")?;
     }
+    Ok(())
 }
 
 // Sends these bytes, no more, and shows them and the answer.
-fn exchange(card: Card, request: &[u8]) -> Card {
+fn exchange(rt: &impl Print, card: Card, request: &[u8]) -> io::Result<Card> {
     let mut answer = [host::FILL; 2048];
     let o = card::command(card, request, &mut answer);
-    say::text(b"  ");
-    say::size(request.len());
-    say::text(b" bytes in\n    ");
-    say::hex(request);
-    say::text(b"\n");
-    came(o.number, o.count, &answer);
-    o.card
+    say::text(rt, b"  ")?;
+    say::size(rt, request.len())?;
+    say::text(rt, b" bytes in\n    ")?;
+    say::hex(rt, request)?;
+    say::text(rt, b"\n")?;
+    came(rt, o.number, o.count, &answer)?;
+    Ok(o.card)
 }
 
-fn opened(card: Card) -> Card {
+fn opened(rt: &impl Print, card: Card) -> io::Result<Card> {
     let mut q = [0u8; 96];
     let n = ask::start(&mut q, 105, ask::ADMIN_SP);
-    say::text(b"  payload ");
-    say::size(n);
+    say::text(rt, b"  payload ")?;
+    say::size(rt, n)?;
     let m = ask::sealed(&mut q, Tsn(0), Hsn(0), n);
-    say::text(b", total ");
-    say::size(m);
-    say::text(b"\n");
-    exchange(card, &q)
+    say::text(rt, b", total ")?;
+    say::size(rt, m)?;
+    say::text(rt, b"\n")?;
+    exchange(rt, card, &q)
 }
 
-fn ended(card: Card) -> Card {
+fn ended(rt: &impl Print, card: Card) -> io::Result<Card> {
     let q =
         *b"\x00\x00\x00\x00\x10\x00\x00\x00\x00\x00\x00\x00\x00\x00\x00\x00\x00\x00\x00\x28\x00\x00\x00\x01\x00\x00\x00\x69\x00\x00\x00\x00\x00\x00\x00\x00\x00\x00\x00\x00\x00\x00\x00\x10\x00\x00\x00\x00\x00\x00\x00\x00\x00\x00\x00\x01\xfa\x00\x00\x00";
-    exchange(card, &q)
+    exchange(rt, card, &q)
 }
 
-pub(crate) fn run() {
+pub(crate) fn run(rt: &impl Print) -> io::Result<()> {
     say::text(
+        rt,
         b"The card's own answers: StartSession with HSN 105 and no options, the end of that session, and the end again\n",
-    );
-    let a = opened(host::factory(1000000));
-    let b = ended(a);
-    ended(b);
+    )?;
+    let a = opened(rt, host::factory(1000000))?;
+    let b = ended(rt, a)?;
+    ended(rt, b)?;
+    Ok(())
 }

@@ -1,123 +1,124 @@
 // The figures on tokens, and tokens that are not there or broken.
 use crate::say;
+use std::io;
 use token::{Put, Token};
 
-fn read(s: &[u8]) {
-    say::text(b"  ");
-    say::hex(s);
-    say::text(b"is ");
+fn read(rt: &impl Print, s: &[u8]) -> io::Result<()> {
+    say::text(rt, b"  ")?;
+    say::hex(rt, s)?;
+    say::text(rt, b"is ")?;
     let t = token::read(s, 0);
     match t {
         Token::Int { value, next: _ } => {
-            say::text(b"the integer ");
-            say::number(value);
+            say::text(rt, b"the integer ")?;
+            say::number(rt, value)?;
         }
         Token::Bytes {
             start: _,
             len,
             next: _,
         } => {
-            say::size(len);
-            say::text(b" bytes");
+            say::size(rt, len)?;
+            say::text(rt, b" bytes")?;
         }
         Token::Control { code: _, next: _ } => {
-            say::text(b"a control token");
+            say::text(rt, b"a control token")?;
         }
         Token::End => {
-            say::text(b"the end of the input");
+            say::text(rt, b"the end of the input")?;
         }
         Token::Broken => {
-            say::text(b"broken");
+            say::text(rt, b"broken")?;
         }
     }
-    say::text(b"\n");
+    say::text(rt, b"\n")
 }
 
 // What a writer answered, and the buffer.
-fn wrote(p: Put, buf: &[u8]) {
+fn wrote(rt: &impl Print, p: Put, buf: &[u8]) -> io::Result<()> {
     match p {
         Put::At(q) => {
-            say::some(buf, q);
+            say::some(rt, buf, q)?;
         }
         Put::Full => {
-            say::text(b"refused for want of room, the buffer is still ");
-            say::hex(buf);
+            say::text(rt, b"refused for want of room, the buffer is still ")?;
+            say::hex(rt, buf)?;
         }
         Put::Outside => {
-            say::text(b"refused as outside the limits, the buffer is still ");
-            say::hex(buf);
+            say::text(rt, b"refused as outside the limits, the buffer is still ")?;
+            say::hex(rt, buf)?;
         }
     }
-    say::text(b"\n");
+    say::text(rt, b"\n")
 }
 
-fn int(v: u64) {
+fn int(rt: &impl Print, v: u64) -> io::Result<()> {
     let mut buf = [0u8; 9];
-    say::text(b"  ");
-    say::number(v);
-    say::text(b" is written ");
+    say::text(rt, b"  ")?;
+    say::number(rt, v)?;
+    say::text(rt, b" is written ")?;
     let p = token::put_int(&mut buf, 0, v);
-    wrote(p, &buf);
+    wrote(rt, p, &buf)
 }
 
-fn bytes(s: &[u8]) {
+fn bytes(rt: &impl Print, s: &[u8]) -> io::Result<()> {
     let mut buf = [0u8; 40];
-    say::text(b"  ");
-    say::size(s.len());
-    say::text(b" bytes are written ");
+    say::text(rt, b"  ")?;
+    say::size(rt, s.len())?;
+    say::text(rt, b" bytes are written ")?;
     let p = token::put_bytes(&mut buf, 0, s);
-    wrote(p, &buf);
+    wrote(rt, p, &buf)
 }
 
-pub(crate) fn run() {
-    say::text(b"Tokens read\n");
-    read(b"\x3f");
-    read(b"\x40");
-    read(b"\x81\x40");
-    read(b"\x81\x05");
-    read(b"\x80");
-    read(b"\xa0");
-    say::text(b"Longer forms, leading zeros and empty tokens\n");
-    read(b"\x82\x00\x05");
-    read(b"\x88\xff\xff\xff\xff\xff\xff\xff\xff");
-    read(b"\xc0\x01\x05");
-    read(b"\xe0\x00\x00\x01\x05");
-    read(b"\xd0\x00");
-    read(b"\xe2\x00\x00\x00");
-    read(b"\xff\xff\x05");
-    say::text(b"Bad input\n");
-    read(b"");
-    read(b"\xff");
-    read(b"\x81");
-    read(b"\xa1");
-    read(b"\xd0");
-    read(b"\xe2");
-    read(b"\xe2\xff\xff\xff");
-    read(b"\x89\x00\x00\x00\x00\x00\x00\x00\x00\x05");
-    read(b"\x91\x05");
-    read(b"\xb1\x05");
-    read(b"\xe4");
-    read(b"\xf4");
-    read(b"\xfd");
-    say::text(b"Tokens written\n");
-    int(63);
-    int(64);
-    int(255);
-    int(256);
-    int(18446744073709551615);
-    bytes(b"");
-    bytes(b"fifteen bytes..");
-    bytes(b"sixteen bytes...");
-    bytes(b"a PIN of thirty-two bytes is one");
+pub(crate) fn run(rt: &impl Print) -> io::Result<()> {
+    say::text(rt, b"Tokens read\n")?;
+    read(rt, b"\x3f")?;
+    read(rt, b"\x40")?;
+    read(rt, b"\x81\x40")?;
+    read(rt, b"\x81\x05")?;
+    read(rt, b"\x80")?;
+    read(rt, b"\xa0")?;
+    say::text(rt, b"Longer forms, leading zeros and empty tokens\n")?;
+    read(rt, b"\x82\x00\x05")?;
+    read(rt, b"\x88\xff\xff\xff\xff\xff\xff\xff\xff")?;
+    read(rt, b"\xc0\x01\x05")?;
+    read(rt, b"\xe0\x00\x00\x01\x05")?;
+    read(rt, b"\xd0\x00")?;
+    read(rt, b"\xe2\x00\x00\x00")?;
+    read(rt, b"\xff\xff\x05")?;
+    say::text(rt, b"Bad input\n")?;
+    read(rt, b"")?;
+    read(rt, b"\xff")?;
+    read(rt, b"\x81")?;
+    read(rt, b"\xa1")?;
+    read(rt, b"\xd0")?;
+    read(rt, b"\xe2")?;
+    read(rt, b"\xe2\xff\xff\xff")?;
+    read(rt, b"\x89\x00\x00\x00\x00\x00\x00\x00\x00\x05")?;
+    read(rt, b"\x91\x05")?;
+    read(rt, b"\xb1\x05")?;
+    read(rt, b"\xe4")?;
+    read(rt, b"\xf4")?;
+    read(rt, b"\xfd")?;
+    say::text(rt, b"Tokens written\n")?;
+    int(rt, 63)?;
+    int(rt, 64)?;
+    int(rt, 255)?;
+    int(rt, 256)?;
+    int(rt, 18446744073709551615)?;
+    bytes(rt, b"")?;
+    bytes(rt, b"fifteen bytes..")?;
+    bytes(rt, b"sixteen bytes...")?;
+    bytes(rt, b"a PIN of thirty-two bytes is one")?;
     let mut small = [0u8; 3];
-    say::text(b"  65,536 in three bytes is ");
+    say::text(rt, b"  65,536 in three bytes is ")?;
     let p = token::put_int(&mut small, 0, 65536);
-    wrote(p, &small);
-    say::text(b"  65,535 in three bytes is ");
+    wrote(rt, p, &small)?;
+    say::text(rt, b"  65,535 in three bytes is ")?;
     let q = token::put_int(&mut small, 0, 65535);
-    wrote(q, &small);
+    wrote(rt, q, &small)?;
     let mut one = [0u8; 1];
-    say::text(b"  the control token F4 is ");
+    say::text(rt, b"  the control token F4 is ")?;
     let r = token::put_control(&mut one, 0, 0xf4);
-    wrote(r, &one);
+    wrote(rt, r, &one)
 }

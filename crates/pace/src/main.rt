@@ -1,6 +1,10 @@
 // How long one command takes: StartSession, Get, Set and the end of a session through `card::command` alone, with no image in or out.
 // What each is answered goes to standard output, where the gate holds it to a file; the times go to standard error.
+#![tactic(auto)]
+
 use model::Card;
+use std::io;
+use std::time::CpuClock;
 
 // Of each, after the first.
 const ROUNDS: u64 = 100000;
@@ -35,34 +39,26 @@ const SET: [u8; 124] =
 const END_2: [u8; 60] =
     *b"\x00\x00\x00\x00\x10\x00\x00\x00\x00\x00\x00\x00\x00\x00\x00\x00\x00\x00\x00\x28\x00\x00\x00\x02\x00\x00\x00\x69\x00\x00\x00\x00\x00\x00\x00\x00\x00\x00\x00\x00\x00\x00\x00\x10\x00\x00\x00\x00\x00\x00\x00\x00\x00\x00\x00\x01\xfa\x00\x00\x00";
 
-// The processor's time in microseconds.
-fn clock() -> u64 {
-    let t = libc::clock();
-    if t < 0 {
+// The processor's time in microseconds, or 0 where the clock does not say.
+fn clock(rt: &impl CpuClock) -> u64 {
+    let Ok(t) = rt.process_cpu_time() else {
         return 0;
-    }
-    t as u64
+    };
+    u64::try_from(t.as_micros()).unwrap_or(0)
 }
 
-fn said(what: &[u8], number: u8, count: usize) {
-    io::write_all(1, what);
-    io::write_all(1, b": number ");
-    io::print_decimal(1, number as u64);
-    io::write_all(1, b", ");
-    io::print_decimal(1, count as u64);
-    io::write_all(1, b" bytes\n");
+fn said(rt: &impl Print, what: &str, number: u8, count: usize) -> io::Result<()> {
+    println!(rt; "{what}: number {number}, {count} bytes")
 }
 
-fn took(what: &[u8], from: u64, to: u64) {
-    io::write_all(2, what);
+fn took(rt: &impl Eprint, what: &str, from: u64, to: u64) -> io::Result<()> {
     if from <= to {
         if to - from < 1000000000 {
-            io::write_all(2, b": ");
-            io::print_decimal(2, (to - from) * 1000 / ROUNDS);
-            io::write_all(2, b" ns");
+            let each = (to - from) * 1000 / ROUNDS;
+            return eprintln!(rt; "{what}: {each} ns");
         }
     }
-    io::write_all(2, b"\n");
+    eprintln!(rt; "{what}")
 }
 
 // The same command on the same card again and again; each record is kept until the next, so that none is left out.
@@ -78,25 +74,31 @@ fn again(card: Card, request: &[u8]) -> Card {
     last
 }
 
-fn timed(what: &[u8], card: Card, request: &[u8]) -> Card {
+fn timed(
+    rt: &(impl Print + Eprint + CpuClock),
+    what: &str,
+    card: Card,
+    request: &[u8],
+) -> io::Result<Card> {
     let mut answer = [0; 2048];
     let o = card::command(card, request, &mut answer);
-    said(what, o.number, o.count);
-    let from = clock();
+    said(rt, what, o.number, o.count)?;
+    let from = clock(rt);
     let last = again(card, request);
-    let to = clock();
-    took(what, from, to);
-    last
+    let to = clock(rt);
+    took(rt, what, from, to)?;
+    Ok(last)
 }
 
-fn main() {
+fn main(rt: HostRuntime) -> io::Result<()> {
     let mut answer = [0; 2048];
     let made = record::factory(1000000, &MSID);
     let a = card::command(made.card, &AS_SID, &mut answer);
     let b = card::command(a.card, &ACTIVATE, &mut answer);
     let c = card::command(b.card, &END_1, &mut answer);
-    let open = timed(b"StartSession", c.card, &AS_ADMIN1);
-    let told = timed(b"Get of a range's row", open, &GET);
-    let set = timed(b"Set of a range's row", told, &SET);
-    timed(b"end of session", set, &END_2);
+    let open = timed(&rt, "StartSession", c.card, &AS_ADMIN1)?;
+    let told = timed(&rt, "Get of a range's row", open, &GET)?;
+    let set = timed(&rt, "Set of a range's row", told, &SET)?;
+    timed(&rt, "end of session", set, &END_2)?;
+    Ok(())
 }

@@ -1,16 +1,19 @@
 // The simulator: lines from standard input, and one answer on standard output, at once, for each that is not passed over. Lines are cut by
 // `desk::cut` and answered by `desk::turn`; what is left here reads and writes.
+#![tactic(auto)]
+
 ghost use Rattle.std.specs.Prelude.{◌≡◌, length};
+ghost use Rattle.std.specs.Io.{ReadsAtMost};
 
 use desk::cut;
-use libc::{EINTR, STDIN_FILENO, STDOUT_FILENO};
+use std::io;
+use std::io::{ErrorKind, Read, Write};
 
-// What is kept between lines: whether a card is in hand, how much of the next line is there, and whether every answer was written.
+// What is kept between lines: whether a card is in hand, and how much of the next line is there.
 #[derive(Clone, Copy)]
 struct State {
     there: bool,
     len: usize,
-    well: bool,
 }
 
 fn image_space() -> [u8; 1188]
@@ -19,68 +22,58 @@ fn image_space() -> [u8; 1188]
     [0; 1188]
 }
 
-// Writes all of s, again where a signal broke it off. A write that takes nothing is a failure.
-fn write_all(s: &[u8]) -> bool {
-    let mut at = 0;
-    let mut turns = u64::MAX;
-    while turns > 0 {
-        if s.len() <= at {
-            return true;
-        }
-        let rest = &s[at..];
-        let got = libc::write(STDOUT_FILENO, rest);
-        let n = io::count(got, rest);
-        if n == 0 {
-            if got == 0 {
-                return false;
-            }
-            if os::errno() != EINTR {
-                return false;
-            }
-        }
-        at += n;
-        turns -= 1;
-    }
-    false
+// For a line, an answer and a piece of input.
+fn large_space() -> [u8; 65536]
+    ensures { 65536 ≡ length result }
+{
+    [0; 65536]
 }
 
 // One read, again where a signal broke it off.
-fn read_some(piece: &mut [u8]) -> isize {
-    let mut turns = u64::MAX;
-    while turns > 0 {
-        let got = libc::read(STDIN_FILENO, piece);
-        if got >= 0 {
-            return got;
+fn read_some<R: Read>(input: &mut R, piece: &mut [u8]) -> io::Result<usize>
+    ensures { ReadsAtMost result piece.new }
+{
+    for _ in 0..u64::MAX {
+        match input.read(piece) {
+            Ok(n) => return Ok(n),
+            Err(e) => {
+                if e.kind() != ErrorKind::Interrupted {
+                    return Err(e);
+                }
+            }
         }
-        if os::errno() != EINTR {
-            return got;
-        }
-        turns -= 1;
     }
-    -1
+    Err(io::Error::from(ErrorKind::Interrupted))
 }
 
 // Answers the line that is there. A line that is passed over has no text, and gets no line feed.
-fn answer(image: &mut [u8], line: &[u8], out: &mut [u8], s: State) -> State {
+fn answer<W: Write>(
+    output: &mut W,
+    image: &mut [u8],
+    line: &[u8],
+    out: &mut [u8],
+    s: State,
+) -> io::Result<State> {
     let a = desk::turn(image, s.there, cut::front(line, s.len), out);
-    if a.count == 0 {
-        return State {
-            there: a.there,
-            len: 0,
-            well: true,
-        };
+    if a.count > 0 {
+        let n = line::put_text(out, a.count, b"\n");
+        output.write_all(cut::front(out, n))?;
     }
-    let n = line::put_text(out, a.count, b"\n");
-    let well = write_all(cut::front(out, n));
-    State {
+    Ok(State {
         there: a.there,
         len: 0,
-        well,
-    }
+    })
 }
 
 // A piece of input: every line that ends in it is answered, and the start of the next one is kept.
-fn feed(image: &mut [u8], line: &mut [u8], out: &mut [u8], piece: &[u8], state: State) -> State {
+fn feed<W: Write>(
+    output: &mut W,
+    image: &mut [u8],
+    line: &mut [u8],
+    out: &mut [u8],
+    piece: &[u8],
+    state: State,
+) -> io::Result<State> {
     let mut s = state;
     let mut at = 0;
     while at < piece.len() {
@@ -88,55 +81,51 @@ fn feed(image: &mut [u8], line: &mut [u8], out: &mut [u8], piece: &[u8], state: 
         let e = cut::line_end(rest);
         s.len = cut::keep(line, s.len, cut::front(rest, e));
         if rest.len() <= e {
-            return s;
+            return Ok(s);
         }
-        s = answer(image, line, out, s);
-        if s.well {
-            at = at + e + 1;
-        } else {
-            return s;
-        }
+        s = answer(output, image, line, out, s)?;
+        at = at + e + 1;
     }
-    s
+    Ok(s)
 }
 
-// To the end of the input, a last line without a line feed among the lines; false where reading or writing failed.
-fn run(image: &mut [u8], line: &mut [u8], out: &mut [u8], piece: &mut [u8]) -> bool {
+// To the end of the input, a last line without a line feed among the lines.
+fn run<R: Read, W: Write>(
+    input: &mut R,
+    output: &mut W,
+    image: &mut [u8],
+    line: &mut [u8],
+    out: &mut [u8],
+    piece: &mut [u8],
+) -> io::Result<()> {
     let mut s = State {
         there: false,
         len: 0,
-        well: true,
     };
-    let mut turns = u64::MAX;
-    while turns > 0 {
-        let got = read_some(piece);
-        if got < 0 {
-            return false;
-        }
-        if got == 0 {
+    for _ in 0..u64::MAX {
+        let n = read_some(input, piece)?;
+        if n == 0 {
             if s.len > 0 {
-                s = answer(image, line, out, s);
+                answer(output, image, line, out, s)?;
             }
-            return s.well;
+            return Ok(());
         }
-        let n = io::count(got, piece);
-        s = feed(image, line, out, &piece[..n], s);
-        if s.well {
-            turns -= 1;
-        } else {
-            return false;
-        }
+        s = feed(output, image, line, out, &piece[..n], s)?;
     }
-    true
+    Ok(())
 }
 
-fn main() {
+fn main(rt: HostRuntime) -> io::Result<()> {
     let mut image = image_space();
-    let mut line = io::large_buffer();
-    let mut out = io::large_buffer();
-    let mut piece = io::large_buffer();
-    let well = run(&mut image, &mut line, &mut out, &mut piece);
-    if !well {
-        os::fail(b"pocket");
-    }
+    let mut line = large_space();
+    let mut out = large_space();
+    let mut piece = large_space();
+    run(
+        &mut rt.stdin(),
+        &mut rt.stdout(),
+        &mut image,
+        &mut line,
+        &mut out,
+        &mut piece,
+    )
 }

@@ -100,3 +100,6 @@ bytes-length bs = length-append (head_of (length bs)) bs
 pub bytes-over : (d mid last bs : List ℕ) (at k : ℕ) → mid ≡ over d at (head_of (length bs)) → last ≡ over mid k bs → k ≡ at + length (head_of (length bs)) → k ≤ length d → last ≡ over d at (enc_bytes bs)
 unfolding enc_bytes
 bytes-over d mid last bs at k p q e h = join d mid last (head_of (length bs)) bs at k p q e h
+
+-- how many bytes stand before n bytes
+pub ruleset head_lengths = (len-one, len-two, len-four)

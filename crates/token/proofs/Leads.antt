@@ -148,6 +148,9 @@ unfolding lead_of within is_control
 gap-fd b h k q =
     simp (ne_eqb (b - 0xfd) 2 (λ e. q (omega arith))) at (says 0xfd 3 (λ n. cond (eqb n 2) L.Empty L.Broken) tt b h (omega arith))
 
+-- every range and gap
+pub ruleset leads = (tiny, short_int, short_bytes, medium_int, medium_bytes, long_int, long_bytes, control-low, control-high, empty, gap-40, gap-90, gap-b0, gap-c8, gap-d8, gap-f4, gap-fd)
+
 pub is_true : (t : Bool) → T t → t ≡ true
 is_true true h = refl
 is_true false h = absurd h

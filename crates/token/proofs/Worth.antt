@@ -1,5 +1,5 @@
 -- The number that bytes make, gathered from the first to the last, is what they are worth.
-use Prim.Native.Nat.{ℕ, suc, ◌+◌, ◌*◌, ◌^◌}
+use Prim.Native.Nat.{ℕ, ◌+◌, ◌*◌, ◌^◌}
 use mathlib.Core.Path.{◌≡◌, ◌∙◌}
 use mathlib.Core.List.{List, [], ◌∷◌}
 use native.Mathlib.Omega.{arith}

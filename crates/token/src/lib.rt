@@ -1,5 +1,6 @@
 // TCG tokens: one read at a place of a slice, and atoms and control tokens written at a place of a buffer.
 #![tactic(auto)]
+
 ghost use Rattle.std.specs.Prelude.{◌≡◌, true, false, [], ◌∷◌, ◌+◌, ◌*◌, ◌<◌, ◌≤◌, length, drop, take, ltb};
 ghost use Rattle.token.specs.Bytes.{be_val, number_at, be_of, over};
 ghost use Rattle.token.specs.Token.{is_control, lead_of, atom_of, token_at};
@@ -55,6 +56,7 @@ pub enum Put {
 }
 
 // What the first byte says.
+#[tactic(auto, using(crate::proofs::Leads::leads))]
 pub fn classify(b: u8) -> Lead
     ensures { result ≡ lead_of b }
 {
@@ -298,6 +300,7 @@ pub fn put_int(buf: &mut [u8], at: usize, v: u64) -> Put
 }
 
 // How many bytes stand before n bytes.
+#[tactic(auto, using(crate::proofs::Forms::head_lengths))]
 pub fn head_len(n: usize) -> usize
     ensures { (result ≡ length (head_of n)) × (1 ≤ result) × (result ≤ 4) }
 {

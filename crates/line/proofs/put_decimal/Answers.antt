@@ -26,9 +26,6 @@ pub slice_bounds-put-end : goal.slice_bounds-put-end
 slice_bounds-put-end c = let l = c.loop-w in
     le_of_eq (sym (length-set l.d (l.j - 1) c.letter-2.result ∙ l.invariant.3))
 
-pub put-requires : goal.put-requires
-put-requires c = tt
-
 pub returns : goal.returns
 unfolding formed
 returns c = let l = c.loop-w in

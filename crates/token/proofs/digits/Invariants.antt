@@ -1,5 +1,5 @@
 -- `token::digits` meets its contract: the digits from j on stand behind p + j, and those that are left are the lowest j of w.
-use Prim.Native.Nat.{ℕ, ◌≤◌, ◌+◌, ◌-◌}
+use Prim.Native.Nat.{ℕ, ◌≤◌, ◌+◌}
 use mathlib.Core.Path.{◌≡◌}
 use mathlib.Core.List.{List, ◌++◌}
 use lib.ListN.{length, take, drop}

@@ -1,4 +1,3 @@
-use Prim.Native.Nat.{◌<◌, ◌-◌}
 use mathlib.Core.Path.{◌≡◌, refl}
 use lib.Dec.{lit<}
 use native.Mathlib.Omega.{arith}

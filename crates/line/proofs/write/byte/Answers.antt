@@ -1,5 +1,4 @@
 -- `line::write::byte` meets its contract, form by form.
-use Prim.Native.Nat.{◌/◌}
 use mathlib.Core.Path.{sym, ◌∙◌}
 use native.Mathlib.Omega.{arith}
 use Rattle.line.specs.Hex.{byte_of}
@@ -14,14 +13,11 @@ bounds-s-i c = rw c.in-Plain.is at c.requires
 pub bounds-s-i-in-Spelled : goal.bounds-s-i-in-Spelled
 bounds-s-i-in-Spelled c = spelled-in _ _ _ c.requires c.in-Spelled.is
 
-pub letter-requires : goal.letter-requires
-letter-requires c = omega (arith, c.shared_slice_known-in-Spelled-1.given (c.args.i / 2))
-
 pub returns-then-i-eq0 : goal.returns-then-i-eq0
-returns-then-i-eq0 c = c.letter.ensures ∙ sym (spelled-even _ _ _ c.requires c.in-Spelled.is c.if-i-eq0.true)
+returns-then-i-eq0 c = c.letter.ensures ∙ sym (spelled-even _ _ _ c.requires c.in-Spelled.is (omega arith))
 
 pub returns-in-Spelled : goal.returns-in-Spelled
-returns-in-Spelled c = c.letter-in-Spelled.ensures ∙ sym (spelled-odd _ _ _ c.requires c.in-Spelled.is c.if-i-eq0.false)
+returns-in-Spelled c = c.letter-in-Spelled.ensures ∙ sym (spelled-odd _ _ _ c.requires c.in-Spelled.is (omega arith))
 
 pub overflow_mul-i : goal.overflow_mul-i
 overflow_mul-i c = omega (arith, meant-in _ _ _ c.requires c.in-Meant.is)
