@@ -1,0 +1,6 @@
+-- A reset of the card in hand.
+use Rattle.desk.proofs.Lines.{resets}
+use Rattle.desk.proofs.reset.Goals as goal
+
+pub returns : goal.returns
+returns c = resets _ _ _ _ _ _ _ c.flamepocket_tper_reset-r.ensures.answer c.flamepocket_tper_reset-r.ensures.image c.say_number-k.ensures
