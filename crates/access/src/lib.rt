@@ -1,5 +1,6 @@
 // What a UID names, and who may do what: the access rows are one fixed table, searched for each call.
 #![tactic(auto)]
+
 ghost use Rattle.std.specs.Prelude.{◌≡◌, ◌≤◌, ◌<◌, ◌+◌, ◌-◌, true, false, cond};
 ghost use Rattle.token.specs.Bytes.{within};
 ghost use Rattle.model.specs.Record.{admin_count, proved_at};

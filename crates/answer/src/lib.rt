@@ -1,5 +1,6 @@
 // The payload that answers a decision, written from byte 56 on, where the envelope is put around it.
 #![tactic(auto)]
+
 ghost use Rattle.std.specs.Prelude.{◌≡◌, cond, [], ◌∷◌, ◌+◌, ◌≤◌, length, leb};
 ghost use Rattle.token.specs.Bytes.{over};
 ghost use Rattle.token.specs.Write.{enc_int};

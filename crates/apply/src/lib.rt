@@ -1,5 +1,6 @@
 // What a decision does to the cells, and what the resets do.
 #![tactic(auto)]
+
 ghost use Rattle.std.specs.Prelude.{◌≡◌, set};
 ghost use Rattle.model.specs.declared.Change.TheVariants as C;
 ghost use Rattle.model.specs.declared.Decision.TheVariants as D;

@@ -15,7 +15,7 @@ use Rattle.packet.specs.Laws.{Contained}
 use Rattle.packet.proofs.Envelope.{opened-by}
 use Rattle.model.specs.declared.Card.{Card}
 use Rattle.model.specs.Sound.{sound}
-use Rattle.model.specs.Step.{Heard, turned, hear_packet, heard}
+use Rattle.model.specs.Step.{turned, hear_packet, heard}
 use Rattle.card.specs.Hear.{hear_at}
 
 -- the payload lies inside the request

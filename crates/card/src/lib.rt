@@ -1,5 +1,6 @@
 // The card: command bytes in, answer bytes and the changed record out; the resets and the media question.
 #![tactic(auto)]
+
 ghost use Rattle.std.specs.Prelude.{◌≡◌, ◌++◌, ◌≤◌, length, drop};
 ghost use Rattle.model.specs.Step.{judged, turned, hear_manager, is_manager, is_session, broke, framed, reply_to, command, outcome_of, buffer_of, reset_to, power, reset, media};
 ghost use Rattle.packet.specs.Envelope.{seal_end, seal_all};

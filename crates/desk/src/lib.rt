@@ -1,6 +1,7 @@
 // The simulator's desk: a line in, the answer's text and the card in hand out. The card is the record's image, and it is asked
 // through the library's own functions alone.
 #![tactic(auto)]
+
 pub mod cut;
 
 ghost use Rattle.std.specs.Prelude.{◌≡◌, false, ◌∷◌, ◌++◌, ◌+◌, ◌≤◌, length};

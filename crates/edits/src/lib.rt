@@ -1,5 +1,6 @@
 // A Set's values: whether they are good for the object, and the change that they ask for.
 #![tactic(auto)]
+
 ghost use Rattle.std.specs.Prelude.{◌≡◌};
 ghost use Rattle.params.specs.Columns.{column_at};
 ghost use Rattle.edits.specs.Kinds.{range_kinds, mbr_kinds};

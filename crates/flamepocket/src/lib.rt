@@ -1,6 +1,7 @@
 // The card as a library for C and Rust: the record is its image, a fixed count of bytes that the caller holds. include/flamepocket.h has each
 // function with its return values. On any refusal image and answer buffer are as they were.
 #![tactic(auto)]
+
 ghost use Rattle.std.specs.Prelude.{◌≡◌, cond, length};
 ghost use Rattle.model.specs.Step.{made, command, outcome_of, buffer_of, power, reset, media};
 ghost use Rattle.image.specs.Read.{image_ok, card_at};

@@ -1,5 +1,6 @@
 // The parts of a record as they come from the factory, and as they stand where nothing is kept.
 #![tactic(auto)]
+
 ghost use Rattle.std.specs.Prelude.{◌≡◌, replicate};
 ghost use Rattle.model.specs.Record.{no_session, no_tables, no_undo, no_secrets, no_tries, factory_tables, factory_enabled, restored_locking, factory_secrets, factory_card};
 ghost use Rattle.ranges.specs.Row.{row_count, no_row};

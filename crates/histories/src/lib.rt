@@ -1,5 +1,6 @@
 // Worked histories from a factory record, byte for byte, the wrong cards that they tell apart, and witnesses that the laws speak of something.
 #![tactic(auto)]
+
 ghost use Rattle.histories.specs.Wrong.{ShutOut};
 ghost use Rattle.histories.specs.Worked.{Worked, WorkedLocking};
 ghost use Rattle.histories.specs.Edges.{Edges};

@@ -3,7 +3,6 @@ use Prim.Native.Nat.{ℕ, ◌+◌}
 use mathlib.Core.Path.{refl, ◌∙◌}
 use mathlib.Core.Bool.{Bool}
 use mathlib.Core.List.{List, [], ◌∷◌, ◌++◌}
-use lib.ListN.{length}
 use Rattle.token.specs.Bytes.{be_of}
 use Rattle.token.proofs.Writes.{be-length}
 use Rattle.image.specs.Types.{Row, Tables, Session, Card}

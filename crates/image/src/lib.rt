@@ -1,5 +1,6 @@
 // The record's image: docs/IMAGE.md is its layout.
 #![tactic(auto)]
+
 ghost use Rattle.std.specs.Prelude.{◌+◌, ◌≤◌, ◌≡◌, cond, [], ◌∷◌, length, eqb};
 ghost use Rattle.token.specs.Bytes.{number_at, be_of};
 ghost use Rattle.image.specs.Write.{each_of, flag_of, flags_of, row_of, tables_of, tries_of, session_of, pin_of, head_of, undo_of, cells_of, vault_of, image_of, image_length, Put};

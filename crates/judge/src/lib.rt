@@ -1,6 +1,7 @@
 // What is decided of a request, in document 01's order of checks. No PIN is seen here: where one must be compared, that is said, with what
 // follows either way.
 #![tactic(auto)]
+
 ghost use Rattle.std.specs.Prelude.{ℕ, ◌<◌, ◌≡◌, not, cond, List, leb, ltb};
 ghost use Rattle.ranges.specs.Decides.{imp};
 ghost use Rattle.value.specs.Read.{values_at};

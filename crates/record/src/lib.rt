@@ -1,5 +1,6 @@
 // Whether a record is sound, clause by clause, and the record as it comes from the factory.
 #![tactic(auto)]
+
 ghost use Rattle.std.specs.Prelude.{◌≡◌, length};
 ghost use Rattle.ranges.specs.Decides.{all};
 ghost use Rattle.model.specs.Record.{no_card};

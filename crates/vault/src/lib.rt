@@ -1,5 +1,6 @@
 // The vault: it alone reads a stored PIN. What it compares, and what a decision makes it do.
 #![tactic(auto)]
+
 ghost use Rattle.std.specs.Prelude.{◌≡◌, ◌≤◌, length, get_or, set};
 ghost use Rattle.model.specs.Record.{pin_bytes, no_secrets, pin_of, secret_of, secret_at};
 ghost use Rattle.model.specs.Vault.{same, part, decided, with_live, put_back, wiped, given_up, obey_change, obey};

@@ -1,5 +1,5 @@
 -- `any_admin` meets its contract. The invariant: the admins that are still to be asked decide.
-use Prim.Native.Nat.{◌-◌, ◌≤◌}
+use Prim.Native.Nat.{◌≤◌}
 use mathlib.Core.Path.{◌≡◌}
 use Rattle.model.specs.Access.{any_proved}
 use Rattle.access.proofs.any_admin.Given as goal

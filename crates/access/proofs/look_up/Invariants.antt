@@ -1,5 +1,5 @@
 -- `look_up` meets its contract. The invariant: what is found is the word of the rows from i on.
-use Prim.Native.Nat.{◌-◌, ◌≤◌}
+use Prim.Native.Nat.{◌≤◌}
 use lib.ListN.{drop}
 use Rattle.model.specs.Access.{access_rows}
 use Rattle.access.proofs.Search.{Says}

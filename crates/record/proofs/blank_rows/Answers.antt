@@ -1,9 +1,7 @@
-use Prim.Native.Nat.{◌-◌}
 use mathlib.Core.Path.{sym, ◌∙◌}
 use native.Mathlib.Omega.{arith}
 use borrow.Author.Count.{below_more}
 use Rattle.ranges.specs.Row.{row_count}
-use Rattle.model.specs.Sound.{blank_row}
 use Rattle.record.proofs.Every.{passed, failed}
 use Rattle.record.proofs.blank_rows.Goals as goal
 

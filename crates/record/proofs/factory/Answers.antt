@@ -15,6 +15,6 @@ unfolding made
 returns c =
     let size = sym c.size_ok.ensures in
     elim c.if-size_ok.branch [
-        then-size_ok+else-msid-eq-PIN_BYTES w ↦ rw (c.refused.ensures, size ∙ w.if-size_ok.true, ne_eqb _ _ w.if-msid-eq-PIN_BYTES.false) refl
+      | then-size_ok+else-msid-eq-PIN_BYTES w ↦ rw (c.refused.ensures, size ∙ w.if-size_ok.true, ne_eqb _ _ w.if-msid-eq-PIN_BYTES.false) refl
       | else-size_ok w ↦ rw (c.refused.ensures, size ∙ w.if-size_ok.false) refl
     ]

@@ -1,6 +1,5 @@
-use Prim.Native.Nat.{◌-◌}
 use mathlib.Core.Path.{ap}
-use mathlib.Core.Bool.{not, false}
+use mathlib.Core.Bool.{not}
 use native.Mathlib.Omega.{arith}
 use borrow.Author.Count.{below_more}
 use Rattle.model.specs.Record.{pin_count}

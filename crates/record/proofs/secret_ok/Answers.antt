@@ -1,4 +1,4 @@
-use Prim.Native.Nat.{ℕ, zero, suc, ◌≤◌, ◌-◌, ◌+◌}
+use Prim.Native.Nat.{ℕ, zero, suc, ◌≤◌, ◌+◌}
 use mathlib.Core.Path.{◌≡◌, refl, sym, ◌∙◌, ap, ap₂}
 use mathlib.Core.Bool.{◌&&◌, and-false}
 use mathlib.Core.List.{List}

@@ -1,4 +1,3 @@
-use Prim.Native.Nat.{◌-◌}
 use mathlib.Core.Path.{◌≡◌, sym, ◌∙◌}
 use native.Mathlib.Omega.{arith}
 use lib.ListN.{length}
@@ -6,7 +5,7 @@ use borrow.Author.Rules.{rules}
 use borrow.Author.Tests.{eq-eqb}
 use borrow.Author.Count.{below_more}
 use Rattle.model.specs.Record.{pin_count}
-use Rattle.model.specs.Sound.{secret_ok, secrets_ok}
+use Rattle.model.specs.Sound.{secrets_ok}
 use Rattle.record.proofs.Arrays.{mapped}
 use Rattle.record.proofs.Every.{passed, failed}
 use Rattle.record.proofs.secrets_ok.Goals as goal

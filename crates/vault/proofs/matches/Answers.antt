@@ -1,4 +1,3 @@
-use Prim.Native.Nat.{◌-◌}
 use mathlib.Core.Path.{◌≡◌}
 use native.Mathlib.Omega.{arith}
 use lib.ListN.{length}
@@ -29,7 +28,7 @@ loop-i-preserved c =
     let sent = part c.args.s.now c.args.at c.args.len in (
       omega arith,
       elim c.if-given-want.branch [
-          then-given-want w ↦ alike-not held sent loop.i want.result given.result want.ensures given.ensures c.if-given-want.equal w.if-given-want.true w.equal-is
+        | then-given-want w ↦ alike-not held sent loop.i want.result given.result want.ensures given.ensures c.if-given-want.equal w.if-given-want.true w.equal-is
         | else-given-want w ↦ alike-more held sent loop.i want.result given.result want.ensures given.ensures c.if-given-want.equal w.if-given-want.false loop.equal w.equal-is loop.invariant.1
       ],
     )
