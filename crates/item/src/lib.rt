@@ -1,5 +1,6 @@
 // One value of a list at a time, seen flat: the step with which every list of parameters is walked.
 #![tactic(auto)]
+
 ghost use Rattle.std.specs.Prelude.{◌≡◌, ℕ};
 ghost use Rattle.token.specs.Token.{token_at};
 ghost use Rattle.value.specs.Value.{Value};

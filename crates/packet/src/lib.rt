@@ -1,5 +1,6 @@
 // The envelope of a request or an answer: ComPacket, Packet and Subpacket, read and written.
 #![tactic(auto)]
+
 ghost use Rattle.std.specs.Prelude.{◌≡◌, ◌++◌, ◌+◌, ◌<◌, ◌≤◌, length, drop};
 ghost use Rattle.token.specs.Bytes.{be_of, number_at, over};
 ghost use Rattle.packet.specs.Envelope.{pad_of, opened_of, header, seal_end, seal_all};

@@ -1,5 +1,6 @@
 // The parameters of each method. Where a parameter is bytes, its place is that of the request.
 #![tactic(auto)]
+
 ghost use Rattle.std.specs.Prelude.{◌≡◌, true, false, ◌&&◌, ◌||◌, cond, eqb};
 ghost use Rattle.value.specs.Value.{list};
 ghost use Rattle.value.specs.Read.{values_at};

@@ -1,5 +1,6 @@
 // What a payload is: a call, the end of a session, the start or the end of a transaction, or broken.
 #![tactic(auto)]
+
 ghost use Rattle.std.specs.Prelude.{◌≡◌};
 ghost use Rattle.value.specs.Read.{ok, then, end_of};
 ghost use Rattle.payload.specs.Payload.{mark_at, atom_at, uid_at, int_at, status_at, call_at, finish_is, last_of, payload_at};

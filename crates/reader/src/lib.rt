@@ -1,5 +1,6 @@
 // The payload reader for C and Rust, by itself: what `rust/bench-reader` times. The card reads payloads by the same call.
 #![tactic(auto)]
+
 ghost use Rattle.std.specs.Prelude.{◌≡◌};
 ghost use Rattle.payload.specs.Payload.{payload_at};
 ghost use Rattle.reader.specs.Reader.{kind_of, call_of};

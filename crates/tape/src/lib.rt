@@ -1,6 +1,7 @@
 // Whole values in memory that the caller lends: a tape of nodes, three words each, in the order of the tokens.
 // Both ways are all or nothing: a value is judged and measured first, and only then is anything written.
 #![tactic(auto)]
+
 ghost use Rattle.std.specs.Prelude.{◌≡◌, [], ◌∷◌, true, ◌+◌, ◌*◌, ◌<◌, ◌≤◌, length};
 ghost use Rattle.token.specs.Bytes.{over};
 ghost use Rattle.token.specs.Write.{put_all};

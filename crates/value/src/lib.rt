@@ -1,5 +1,6 @@
 // Values: where an atom, a list or a named value ends, nested to a given depth, in bytes or on a tape of nodes.
 #![tactic(auto)]
+
 ghost use Rattle.std.specs.Prelude.{◌≡◌, ◌+◌, ◌*◌};
 ghost use Rattle.token.specs.Token.{token_at};
 ghost use Rattle.value.specs.Read.{end_of, mark_of, atom_is, value_at, opened_in, values_at};

@@ -3,4 +3,4 @@ use Rattle.packet.proofs.Envelope.{field-small}
 use Rattle.packet.proofs.field.Goals as goal
 
 pub returns : goal.returns
-returns c = (c.number_at.ensures, rw c.number_at.ensures (field-small _ (λ i. (c.shared_slice_known-1.given i).fits) _))
+returns c = (c.number_at.ensures, rw c.number_at.ensures (field-small _ (λ i. (c.type_inv.s i).fits) _))

@@ -1,7 +1,5 @@
 -- `set` wants the list named 1, or nothing.
 use mathlib.Core.Path.{◌∙◌}
-use mathlib.Core.List.{[], ◌∷◌}
-use types.Run.{miss}
 use Rattle.params.proofs.Lists.{set-nothing, set-list, set_other, set-beside}
 use Rattle.params.proofs.set.Goals as goal
 

@@ -1,6 +1,7 @@
 -- `finish_at` answers commit for 0, abandon for 1, and broken otherwise.
 use mathlib.Core.Path.{refl, sym, ◌∙◌}
 use borrow.Author.Tests.{ne_eqb}
+use native.Mathlib.Omega.{arith}
 use Rattle.value.specs.Read.{then, atom_is}
 use Rattle.payload.specs.After.{after}
 use Rattle.payload.specs.Payload.{finish_is, last_of}
@@ -21,4 +22,4 @@ returns-in-1 c = rw (sym c.read-t.ensures ∙ c.in-Int.is, c.in-1.is) c.last_aft
 
 pub returns-in_default-value : goal.returns-in_default-value
 unfolding atom_is then finish_is last_of
-returns-in_default-value c = rw (sym c.read-t.ensures ∙ c.in-Int.is, ne_eqb _ 0 c.in_default-value.in_default-value-own.rest.0.1, ne_eqb _ 1 c.in_default-value.in_default-value-own.rest.1)
+returns-in_default-value c = rw (sym c.read-t.ensures ∙ c.in-Int.is, ne_eqb c.in-Int.value 0 (omega arith), ne_eqb c.in-Int.value 1 (omega arith))

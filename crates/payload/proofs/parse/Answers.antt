@@ -1,6 +1,7 @@
 -- `parse` goes by the first token, and by its code where that is a control token.
 use mathlib.Core.Path.{sym, ap, ◌∙◌}
 use borrow.Author.Tests.{ne_eqb}
+use native.Mathlib.Omega.{arith}
 use Rattle.value.specs.declared.End.TheVariants as E
 use Rattle.payload.specs.After.{after}
 use Rattle.payload.specs.Payload.{int_at, starts_by, last_of}
@@ -30,4 +31,4 @@ returns-in-252 c = rw (sym c.read-t.ensures ∙ c.in-Control.is, c.in-252.is) c.
 
 pub returns-in_default-code : goal.returns-in_default-code
 unfolding starts_by last_of
-returns-in_default-code c = rw (sym c.read-t.ensures ∙ c.in-Control.is, ne_eqb _ 0xf8 c.in_default-code.in_default-code-own.rest.0.0.0.1, ne_eqb _ 0xfa c.in_default-code.in_default-code-own.rest.0.0.1, ne_eqb _ 0xfb c.in_default-code.in_default-code-own.rest.0.1, ne_eqb _ 0xfc c.in_default-code.in_default-code-own.rest.1)
+returns-in_default-code c = rw (sym c.read-t.ensures ∙ c.in-Control.is, ne_eqb c.in-Control.code 0xf8 (omega arith), ne_eqb c.in-Control.code 0xfa (omega arith), ne_eqb c.in-Control.code 0xfb (omega arith), ne_eqb c.in-Control.code 0xfc (omega arith))

@@ -1,6 +1,7 @@
 -- `uid_at` answers the number that eight bytes make, and nothing for another token.
 use mathlib.Core.Path.{sym, ◌∙◌}
 use borrow.Author.Tests.{eq-eqb, ne_eqb}
+use native.Mathlib.Omega.{arith}
 use Rattle.value.specs.Read.{then, atom_is}
 use Rattle.payload.specs.After.{uid_out}
 use Rattle.payload.specs.Payload.{uid_is}
@@ -13,8 +14,8 @@ returns-in_default c = rw (sym c.read-t.ensures) (no_bytes _ _ c.in_default.not-
 
 pub returns-then-len-eq8 : goal.returns-then-len-eq8
 unfolding atom_is then uid_is uid_out
-returns-then-len-eq8 c = rw (sym c.read-t.ensures ∙ c.in-Bytes.is, eq-eqb _ 8 c.if-len-eq8.true, c.number_at-value.ensures)
+returns-then-len-eq8 c = rw (sym c.read-t.ensures ∙ c.in-Bytes.is, eq-eqb c.in-Bytes.len 8 (omega arith), c.number_at-value.ensures)
 
 pub returns : goal.returns
 unfolding atom_is then uid_is uid_out
-returns c = rw (sym c.read-t.ensures ∙ c.in-Bytes.is, ne_eqb _ 8 c.if-len-eq8.false)
+returns c = rw (sym c.read-t.ensures ∙ c.in-Bytes.is, ne_eqb c.in-Bytes.len 8 (omega arith))

@@ -1,4 +1,3 @@
-use Prim.Native.Nat.{◌-◌}
 use native.Mathlib.Omega.{arith}
 use Rattle.tape.proofs.Loaded.{count-first, count-ahead, count_next, count-last}
 use Rattle.tape.proofs.count.Goals as goal

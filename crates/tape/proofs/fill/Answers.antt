@@ -1,4 +1,3 @@
-use Prim.Native.Nat.{◌-◌}
 use native.Mathlib.Omega.{arith}
 use Rattle.tape.proofs.Filled.{fill-first, fill-room, fill-next, fill-last}
 use Rattle.tape.proofs.fill.Goals as goal

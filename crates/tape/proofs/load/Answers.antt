@@ -1,4 +1,3 @@
-use Prim.Native.Nat.{◌-◌}
 use native.Mathlib.Omega.{arith}
 use Rattle.tape.proofs.Loaded.{load-first, load-ahead, load-room, load-next, load-last}
 use Rattle.tape.proofs.load.Goals as goal

@@ -1,4 +1,3 @@
-use Prim.Native.Nat.{◌-◌}
 use native.Mathlib.Omega.{arith}
 use Rattle.tape.proofs.Filled.{measure-none, measure-first, measure-full, measure-next, measure-last}
 use Rattle.tape.proofs.room.Goals as goal

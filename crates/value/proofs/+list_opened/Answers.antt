@@ -1,5 +1,4 @@
-use Prim.Native.Nat.{◌+◌, ◌-◌, ◌<◌}
-use mathlib.Core.Path.{◌≡◌, refl, sym, ◌∙◌}
+use mathlib.Core.Path.{refl, sym, ◌∙◌}
 use native.Mathlib.Omega.{arith}
 use Rattle.value.proofs.Sources.{at-int, at-bytes, at_none, at-broken, at-deep, at-list, at_other, at-no-name, at-no-value, at_named, list-shut, list-broken, list_on, value-ahead}
 use Rattle.value.proofs.Outs.{marked, called}
