@@ -1,5 +1,5 @@
-// The card as a library for C and Rust: the record is its image, a fixed count of bytes that the caller holds. include/flamepocket.h has each
-// function with its return values. On any refusal image and answer buffer are as they were.
+// The card as a library for C and Rust: the record is its image, a fixed count of bytes that the caller holds. `flamepocket_c` exports each
+// function, and include/flamepocket.h has it with its return values. On any refusal image and answer buffer are as they were.
 #![tactic(auto)]
 
 ghost use Rattle.std.specs.Prelude.{◌≡◌, cond, length};
@@ -12,8 +12,7 @@ use model::{Outcome, Ruling};
 use ranges::Verdict;
 
 // How many bytes a record has.
-#[unsafe(no_mangle)]
-pub extern "C" fn flamepocket_record_length() -> usize
+pub fn flamepocket_record_length() -> usize
     ensures { result ≡ 1188 }
 {
     LENGTH
@@ -32,8 +31,7 @@ fn store(bytes: &mut [u8], o: Outcome) -> usize
 }
 
 // A new record: 0, or 1 where N, the MSID or the room for the record is out of bounds.
-#[unsafe(no_mangle)]
-pub extern "C" fn flamepocket_factory(bytes: &mut [u8], n: u64, msid: &[u8]) -> usize
+pub fn flamepocket_factory(bytes: &mut [u8], n: u64, msid: &[u8]) -> usize
     ensures answer { result ≡ made_on (length bytes.old) (made n msid.now) }
     ensures image { bytes.new ≡ stored bytes.old (made n msid.now) }
 {
@@ -45,8 +43,7 @@ pub extern "C" fn flamepocket_factory(bytes: &mut [u8], n: u64, msid: &[u8]) -> 
 }
 
 // 0 where the record is sound, and else 1.
-#[unsafe(no_mangle)]
-pub extern "C" fn flamepocket_sound(bytes: &[u8]) -> usize
+pub fn flamepocket_sound(bytes: &[u8]) -> usize
     ensures { result ≡ sound_of bytes.now }
 {
     let loaded = image::read_image(bytes);
@@ -59,8 +56,7 @@ pub extern "C" fn flamepocket_sound(bytes: &[u8]) -> usize
 }
 
 // A request: the count of answer bytes, or the number 1 to 6 by which it is turned away.
-#[unsafe(no_mangle)]
-pub extern "C" fn flamepocket_command(bytes: &mut [u8], request: &[u8], answer: &mut [u8]) -> usize
+pub fn flamepocket_command(bytes: &mut [u8], request: &[u8], answer: &mut [u8]) -> usize
     ensures answer { result ≡ returned (on_image bytes.old (λ k. outcome_of (command k (length answer.old) request.now))) }
     ensures image { bytes.new ≡ stored bytes.old (on_image bytes.old (λ k. outcome_of (command k (length answer.old) request.now))) }
     ensures buffer { answer.new ≡ cond (image_ok bytes.old) (buffer_of (command (card_at bytes.old) (length answer.old) request.now) answer.old) answer.old }
@@ -74,8 +70,7 @@ pub extern "C" fn flamepocket_command(bytes: &mut [u8], request: &[u8], answer: 
 }
 
 // A power cycle: 0, or 1.
-#[unsafe(no_mangle)]
-pub extern "C" fn flamepocket_power_cycle(bytes: &mut [u8]) -> usize
+pub fn flamepocket_power_cycle(bytes: &mut [u8]) -> usize
     ensures answer { result ≡ returned (on_image bytes.old (λ k. outcome_of (power k))) }
     ensures image { bytes.new ≡ stored bytes.old (on_image bytes.old (λ k. outcome_of (power k))) }
 {
@@ -88,8 +83,7 @@ pub extern "C" fn flamepocket_power_cycle(bytes: &mut [u8]) -> usize
 }
 
 // TPER_RESET: 0, 1 or 7.
-#[unsafe(no_mangle)]
-pub extern "C" fn flamepocket_tper_reset(bytes: &mut [u8]) -> usize
+pub fn flamepocket_tper_reset(bytes: &mut [u8]) -> usize
     ensures answer { result ≡ returned (on_image bytes.old (λ k. outcome_of (reset k))) }
     ensures image { bytes.new ≡ stored bytes.old (on_image bytes.old (λ k. outcome_of (reset k))) }
 {
@@ -102,8 +96,7 @@ pub extern "C" fn flamepocket_tper_reset(bytes: &mut [u8]) -> usize
 }
 
 // A media question, to read where write is 0 and else to write: 0 disk, 1 unsound, 2 shadow, 3 refused.
-#[unsafe(no_mangle)]
-pub extern "C" fn flamepocket_media(bytes: &[u8], write: u8, start: u64, count: u64) -> usize
+pub fn flamepocket_media(bytes: &[u8], write: u8, start: u64, count: u64) -> usize
     ensures { result ≡ media_on bytes.now write start count }
 {
     let loaded = image::read_image(bytes);

@@ -1,4 +1,4 @@
-// The payload reader for C and Rust, by itself: what `rust/bench-reader` times. The card reads payloads by the same call.
+// The payload reader for C and Rust, by itself: `reader_c` exports it, and `rust/bench-reader` times it. The card reads payloads by the same call.
 #![tactic(auto)]
 
 ghost use Rattle.std.specs.Prelude.{◌≡◌};
@@ -9,8 +9,7 @@ use payload::Payload;
 
 // The number of what stands in s from at on, and ends with s: 0 broken, 1 a call, 2 end of session, 3 begin, 4 commit, 5 abandon.
 // Of a call the object, the method and the place of its parameters stand in words afterwards; else they are as they were.
-#[unsafe(no_mangle)]
-pub extern "C" fn flamepocket_read_payload(s: &[u8], at: usize, words: &mut [u64; 3]) -> usize
+pub fn flamepocket_read_payload(s: &[u8], at: usize, words: &mut [u64; 3]) -> usize
     ensures kind { result ≡ kind_of (payload_at s.now at) }
     ensures call { words.new ≡ call_of words.old (payload_at s.now at) }
 {
