@@ -22,7 +22,7 @@ fn link() {
     println!("cargo::rerun-if-changed={}", library.display());
     if !library.is_file() {
         println!("cargo::error=there is no {}", library.display());
-        println!("cargo::error=run `rt staticlib reader` in the repository's root, or name its folder in {PLACE}");
+        println!("cargo::error=run `tools/staticlib reader` in the repository's root, or name its folder in {PLACE}");
         return;
     }
     println!("cargo::rustc-link-search=native={}", folder.display());

@@ -16,7 +16,7 @@ fn main() {
     println!("cargo::rerun-if-changed={}", library.display());
     if !library.is_file() {
         println!("cargo::error=there is no {}", library.display());
-        println!("cargo::error=run `rt staticlib flamepocket` in the repository's root, or name its folder in {PLACE}");
+        println!("cargo::error=run `tools/staticlib flamepocket` in the repository's root, or name its folder in {PLACE}");
         return;
     }
     println!("cargo::rustc-link-search=native={}", folder.display());

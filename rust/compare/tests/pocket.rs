@@ -1,6 +1,6 @@
 //! The simulator `pocket` beside the library: seeded histories as scripts through a pipe, every answer line held to what the
-//! library says, and the next line sent only once the answer was read. It is `target/bin/pocket` of the repository's root, or
-//! what the variable `POCKET` names. Where `POCKET` names none the tests fail; where none is named or built they say so and pass.
+//! library says, and the next line sent only once the answer was read. It is `crates/pocket/out/pocket` of the repository's root,
+//! or what the variable `POCKET` names. Where `POCKET` names none the tests fail; where none is named or built they say so and pass.
 
 use std::collections::BTreeMap;
 use std::env;
@@ -36,7 +36,7 @@ struct Pocket {
 impl Pocket {
     /// None, and a word on it, where the program is not built.
     fn start() -> Option<Pocket> {
-        let built = PathBuf::from(env!("CARGO_MANIFEST_DIR")).join("../../target/bin/pocket");
+        let built = PathBuf::from(env!("CARGO_MANIFEST_DIR")).join("../../crates/pocket/out/pocket");
         let named = env::var_os(PLACE).map(PathBuf::from);
         if named.is_none() && !built.is_file() {
             // Not by a macro: what those print is shown for failed tests only.
