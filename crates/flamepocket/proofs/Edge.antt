@@ -1,19 +1,14 @@
 -- From an image to its record and back.
 use Prim.Native.Nat.{ℕ}
 use mathlib.Core.Path.{◌≡◌, refl, sym, ◌∙◌, ap}
-use mathlib.Core.Bool.{Bool, true, false, ◌&&◌, cond}
+use mathlib.Core.Bool.{Bool, true, false, cond}
 use mathlib.Core.List.{List}
-use mathlib.Core.Logic.{◌≢◌}
-use borrow.Author.Tests.{eq-eqb, ne_eqb}
-use lib.ListN.{length}
-use lib.Dec.{eqb}
 use Rattle.model.specs.declared.Card.{Card}
 use Rattle.model.specs.declared.Outcome.{Outcome}
 use Rattle.model.specs.Record.{no_card}
 use Rattle.image.specs.declared.Loaded.{Loaded}
-use Rattle.image.specs.Write.{image_of}
 use Rattle.image.specs.Read.{image_ok, card_at, loaded_of}
-use Rattle.flamepocket.specs.Library.{on_image, returned, stored, made_on}
+use Rattle.flamepocket.specs.Library.{on_image, returned, stored}
 
 -- ---- what is loaded
 loaded : (b : Bool) (k : Card) (l : Loaded) → l ≡ cond b (record { ok = true; card = k }) (record { ok = false; card = no_card }) → l.ok ≡ b
@@ -50,30 +45,9 @@ module _ (s : List ℕ) (l : Loaded) (e : l ≡ loaded_of s) where
 abbrev pub Stored : List ℕ → Outcome → ℕ → List ℕ → Type 0
 Stored s o r last = (r ≡ returned o) × (last ≡ stored s o)
 
-pub stores : (s last : List ℕ) (o : Outcome) → o.number ≡ 0 → last ≡ cond (eqb (length s) 1188) (image_of o.card) s → Stored s o o.count last
-unfolding returned stored
-stores s last o h e = rw (eq-eqb _ _ h) (refl, e)
-
-pub refuses : (s : List ℕ) (o : Outcome) → o.number ≢ 0 → Stored s o o.number s
-unfolding returned stored
-refuses s o h = rw (ne_eqb _ _ h) (refl, refl)
-
 -- the same outcome in other words
 pub stored-as : (s last : List ℕ) (o p : Outcome) (r : ℕ) → o ≡ p → Stored s o r last → Stored s p r last
 stored-as s last o p r e g = (g.0 ∙ ap returned e, g.1 ∙ ap (stored s) e)
-
--- ---- a new record
-room-less : (b : Bool) (x y : List ℕ) → cond (b && false) x y ≡ y
-room-less true x y = refl
-room-less false x y = refl
-
-pub made-here : (s last : List ℕ) (o : Outcome) (r : ℕ) → length s ≡ 1188 → Stored s o r last → (r ≡ made_on (length s) o) × (last ≡ stored s o)
-unfolding made_on
-made-here s last o r h g = (rw (eq-eqb _ _ h) g.0, g.1)
-
-pub no_room : (s : List ℕ) (o : Outcome) → length s ≢ 1188 → (1 ≡ made_on (length s) o) × (s ≡ stored s o)
-unfolding made_on stored
-no_room s o h = rw (ne_eqb _ _ h) (refl, sym (room-less (eqb o.number 0) (image_of o.card) s))
 
 -- ---- a call on what is loaded, and on what is no image
 module _ (s : List ℕ) (l : Loaded) (e : l ≡ loaded_of s) where

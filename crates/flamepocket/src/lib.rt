@@ -19,6 +19,7 @@ pub fn flamepocket_record_length() -> usize
 }
 
 // The number, or the count of answer bytes where it is 0; an answered request's record is stored.
+#[tactic(auto, unfolding(crate::specs::Library::returned, crate::specs::Library::stored))]
 fn store(bytes: &mut [u8], o: Outcome) -> usize
     ensures answer { result ≡ returned o }
     ensures image { bytes.new ≡ stored bytes.old o }
@@ -31,6 +32,7 @@ fn store(bytes: &mut [u8], o: Outcome) -> usize
 }
 
 // A new record: 0, or 1 where N, the MSID or the room for the record is out of bounds.
+#[tactic(auto, unfolding(crate::specs::Library::made_on, crate::specs::Library::stored))]
 pub fn flamepocket_factory(bytes: &mut [u8], n: u64, msid: &[u8]) -> usize
     ensures answer { result ≡ made_on (length bytes.old) (made n msid.now) }
     ensures image { bytes.new ≡ stored bytes.old (made n msid.now) }
