@@ -1,7 +1,9 @@
 -- The lowest number that applies, or what is heard in the packet.
 use mathlib.Core.Path.{◌≡◌, sym, ◌∙◌}
 use mathlib.Core.Bool.{true}
+use lib.ListN.{length}
 use lib.Seq.{length-take-le}
+use native.Mathlib.Omega.{arith}
 use borrow.Author.Tests.{lt-ltb, le-ltb}
 use Rattle.model.specs.Sound.{sound}
 use Rattle.card.proofs.Settled.{away, heard-as}
@@ -20,11 +22,11 @@ returns-else-sound c =
 
 pub returns-then-answer-lt-MOST : goal.returns-then-answer-lt-MOST
 returns-then-answer-lt-MOST c =
-    let all = away _ _ 2 _ _ (small _ _ _ (is-sound ((goal.at.returns-then-answer-lt-MOST c).Then-sound)) (lt-ltb _ _ c.if-answer-lt-MOST.true)) c.turned_away-then-answer-lt-MOST.ensures in record { outcome = all.0; buffer = all.1 }
+    let all = away _ _ 2 _ _ (small _ _ _ (is-sound ((goal.at.returns-then-answer-lt-MOST c).Then-sound)) (lt-ltb (length c.args.answer.now) 2048 (omega arith))) c.turned_away-then-answer-lt-MOST.ensures in record { outcome = all.0; buffer = all.1 }
 
 pub returns-then-request-gt-MOST : goal.returns-then-request-gt-MOST
 returns-then-request-gt-MOST c =
-    let all = away _ _ 3 _ _ (long _ _ _ (is-sound ((goal.at.returns-then-request-gt-MOST c).Then-sound)) (le-ltb _ _ c.if-answer-lt-MOST.false) (lt-ltb _ _ c.if-request-gt-MOST.true)) c.turned_away-then-request-gt-MOST.ensures in record { outcome = all.0; buffer = all.1 }
+    let all = away _ _ 3 _ _ (long _ _ _ (is-sound ((goal.at.returns-then-request-gt-MOST c).Then-sound)) (le-ltb (length c.args.answer.now) 2048 (omega arith)) (lt-ltb 2048 (length c.args.request.now) (omega arith))) c.turned_away-then-request-gt-MOST.ensures in record { outcome = all.0; buffer = all.1 }
 
 pub overflow_add-start : goal.overflow_add-start
 overflow_add-start c =
@@ -39,11 +41,11 @@ slice_bounds-hear-end c =
 pub returns-in-Packet : goal.returns-in-Packet
 returns-in-Packet c =
     let all = heard-as _ _ _ _ _ _
-    (opened _ _ _ (is-sound ((goal.at.returns-in-Packet c).Then-sound)) (le-ltb _ _ c.if-answer-lt-MOST.false) (le-ltb _ _ c.if-request-gt-MOST.false) _ c.open-opened.ensures _ _ _ _ c.in-Packet.is)
+    (opened _ _ _ (is-sound ((goal.at.returns-in-Packet c).Then-sound)) (le-ltb (length c.args.answer.now) 2048 (omega arith)) (le-ltb 2048 (length c.args.request.now) (omega arith)) _ c.open-opened.ensures _ _ _ _ c.in-Packet.is)
     (c.hear.ensures.outcome, c.hear.ensures.buffer) in record { outcome = all.0; buffer = all.1 }
 
 pub returns-in-Broken : goal.returns-in-Broken
 returns-in-Broken c =
     let all = away _ _ 4 _ _
-    (broken _ _ _ (is-sound ((goal.at.returns-in-Broken c).Then-sound)) (le-ltb _ _ c.if-answer-lt-MOST.false) (le-ltb _ _ c.if-request-gt-MOST.false) _ c.open-opened.ensures c.in-Broken.is)
+    (broken _ _ _ (is-sound ((goal.at.returns-in-Broken c).Then-sound)) (le-ltb (length c.args.answer.now) 2048 (omega arith)) (le-ltb 2048 (length c.args.request.now) (omega arith)) _ c.open-opened.ensures c.in-Broken.is)
     c.turned_away-in-Broken.ensures in record { outcome = all.0; buffer = all.1 }
