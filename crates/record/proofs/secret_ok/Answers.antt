@@ -34,7 +34,7 @@ one_more bytes len i rest l h =
 
 pub returns-then-i-gt-PIN_BYTES : goal.returns-then-i-gt-PIN_BYTES
 unfolding secret_ok
-returns-then-i-gt-PIN_BYTES c = simp (lt-leb _ _ c.if-i-gt-PIN_BYTES.true)
+returns-then-i-gt-PIN_BYTES c = simp (lt-leb c.args.x.len pin_bytes (omega arith))
 
 pub loop-i-init : goal.loop-i-init
 loop-i-init c = (omega arith, (omega arith, passed _ _ _ (omega arith) (not-asked _ _)))
@@ -59,5 +59,5 @@ returns c =
     let x = c.args.x in
     let many : length x.bytes ≡ pin_bytes = search rules in
     let done : c.loop-i.i ≡ pin_bytes = omega arith in
-    rw (le-leb _ _ c.if-i-gt-PIN_BYTES.false, eq-eqb _ _ many)
+    rw (le-leb c.args.x.len pin_bytes (omega arith), eq-eqb _ _ many)
     (c.loop-i.invariant.1.1 ∙ ap (all (zero_at x.bytes x.len)) done)

@@ -19,7 +19,7 @@ pub returns-then-row-gt-TRY_LIMIT : goal.returns-then-row-gt-TRY_LIMIT
 unfolding tries_ok
 returns-then-row-gt-TRY_LIMIT c =
     let many : length c.args.pins ≡ pin_count = search rules in
-    rw (eq-eqb _ _ many) (failed _ pin_count c.loop-r.r (omega arith) (lt-leb _ _ c.if-row-gt-TRY_LIMIT.true))
+    rw (eq-eqb _ _ many) (failed _ pin_count c.loop-r.r (omega arith) (lt-leb _ _ (omega arith)))
 
 pub overflow_add-r : goal.overflow_add-r
 overflow_add-r c = omega arith
@@ -28,7 +28,7 @@ pub loop-r-smaller : goal.loop-r-smaller
 loop-r-smaller c = omega arith
 
 pub loop-r-preserved : goal.loop-r-preserved
-loop-r-preserved c = (omega arith, below_more _ _ c.loop-r.invariant.1 (le-leb _ _ c.if-row-gt-TRY_LIMIT.false))
+loop-r-preserved c = (omega arith, below_more _ _ c.loop-r.invariant.1 (le-leb _ _ (omega arith)))
 
 pub returns : goal.returns
 unfolding tries_ok
