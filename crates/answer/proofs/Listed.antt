@@ -14,6 +14,7 @@ use Rattle.model.specs.declared.Object.{Object}
 use Rattle.model.specs.Uids.{get_method}
 use Rattle.model.specs.Access.{has_column, allowed_column}
 use Rattle.model.specs.Answer.{cell, told}
+use Rattle.model.proofs.Short.{told-short}
 use Rattle.answer.specs.Pieces.{Wrote, column}
 
 -- the columns from k up to end, and the list's end
@@ -37,11 +38,18 @@ rest-none c o end k h =
     let e : end - k ≡ 0 = omega arith in
     rw e
 
+-- however many columns are asked for, their list is short
+pub rest-short : (c : Cells) (o : Object) (end k : ℕ) → length c.msid ≡ 32 → length (rest c o end k) ≤ 901
+rest-short c o end k many = omega (arith, told-short c o (end - k) k many)
+
 -- the rest put into y at p is the whole, from first on, put into d at at
 abbrev pub Still : Cells → Object → ℕ → ℕ → List ℕ → ℕ → ℕ → List ℕ → ℕ → Type 0
 Still c o end first d at k y p = (p + length (rest c o end k) ≡ at + length (rest c o end first)) × (over y p (rest c o end k) ≡ over d at (rest c o end first))
 
 module _ (c : Cells) (o : Object) (end first : ℕ) (d : List ℕ) (at k : ℕ) (y : List ℕ) (p : ℕ) (still : Still c o end first d at k y p) where
+  pub still-short : length c.msid ≡ 32 → p + length (rest c o end k) ≤ at + 901
+  still-short many = omega (arith, still.0, rest-short c o end first many)
+
   pub still-more : (set n r : ℕ) (z : List ℕ) → has_column set k ≡ allowed_column c.session o get_method k → Wrote n y p (column set c o k) r z → k < end → p + n ≤ length y → Still c o end first d at (k + 1) z r
   still-more set n r z a w h f =
       let e = rest_more set c o end k a h in
