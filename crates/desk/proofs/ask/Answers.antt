@@ -9,16 +9,16 @@ unfolding hex_text
 say_reply-n-requires c = omega arith
 
 pub returns-then-r-lt60 : goal.returns-then-r-lt60
-returns-then-r-lt60 c = turns-away _ _ c.args.answer.now _ _ c.flamepocket_command-r.ensures.answer _ _ _ _ c.if-r-lt60.true c.flamepocket_command-r.ensures.image c.say_reply-n.ensures
+returns-then-r-lt60 c = turns-away _ _ c.args.answer.now _ _ c.flamepocket_command-r.ensures.answer _ _ _ _ (omega arith) c.flamepocket_command-r.ensures.image c.say_reply-n.ensures
 
 pub slice_bounds-say_reply-end-2 : goal.slice_bounds-say_reply-end-2
-slice_bounds-say_reply-end-2 c = inside _ _ c.args.answer.now _ _ c.flamepocket_command-r.ensures.answer _ c.flamepocket_command-r.ensures.buffer c.if-r-lt60.false
+slice_bounds-say_reply-end-2 c = inside _ _ c.args.answer.now _ _ c.flamepocket_command-r.ensures.answer _ c.flamepocket_command-r.ensures.buffer (omega arith)
 
 pub slice_bounds-say_reply-end-3 : goal.slice_bounds-say_reply-end-3
-slice_bounds-say_reply-end-3 c = counted _ _ c.args.answer.now _ _ c.flamepocket_command-r.ensures.answer _ c.flamepocket_command-r.ensures.buffer c.if-r-lt60.false
+slice_bounds-say_reply-end-3 c = counted _ _ c.args.answer.now _ _ c.flamepocket_command-r.ensures.answer _ c.flamepocket_command-r.ensures.buffer (omega arith)
 
 pub say_reply-n-requires-2 : goal.say_reply-n-requires-2
-say_reply-n-requires-2 c = let h = hex-fits _ _ c.args.answer.now _ _ c.flamepocket_command-r.ensures.answer _ c.flamepocket_command-r.ensures.buffer c.if-r-lt60.false in omega arith
+say_reply-n-requires-2 c = let h = hex-fits _ _ c.args.answer.now _ _ c.flamepocket_command-r.ensures.answer _ c.flamepocket_command-r.ensures.buffer (omega arith) in omega arith
 
 pub returns : goal.returns
-returns c = answers _ _ c.args.answer.now _ _ c.flamepocket_command-r.ensures.answer _ c.flamepocket_command-r.ensures.buffer c.if-r-lt60.false _ _ _ _ c.flamepocket_command-r.ensures.image c.say_reply-n-2.ensures
+returns c = answers _ _ c.args.answer.now _ _ c.flamepocket_command-r.ensures.answer _ c.flamepocket_command-r.ensures.buffer (omega arith) _ _ _ _ c.flamepocket_command-r.ensures.image c.say_reply-n-2.ensures
