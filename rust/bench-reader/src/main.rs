@@ -85,7 +85,7 @@ fn conditions() -> String {
         "Best of {} rounds, the readers by turns. A payload is read in place, in a buffer of its own; of a random or broken mix\n\
          sixteen by turns. The answer is a number and, of a call, three words in a lent array that is not cleared in between.\n\
          Machine: {}.\n\
-         The yardsticks: {}. Ours: LLVM at -O2 by `tools/staticlib`.\n",
+         The yardsticks: {}. Ours: LLVM, by `tools/staticlib`.\n",
         clock::ROUNDS,
         timing::machine(),
         env!("COMPILED")
