@@ -17,5 +17,4 @@ returns-in-2 c =
 
 pub returns-in_default : goal.returns-in_default
 returns-in_default c =
-    let n = c.in_default.in_default-own.rest in
-    said c.put_resets.ensures (ap enc_value (sym (mbr-rest c.args.m _ n.0.1 n.1))) (omega arith)
+    said c.put_resets.ensures (ap enc_value (sym (mbr-rest c.args.m c.args.k (omega arith) (omega arith)))) (omega arith)

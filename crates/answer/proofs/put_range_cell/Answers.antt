@@ -33,6 +33,5 @@ returns-in-8 c =
 
 pub returns-in_default : goal.returns-in_default
 returns-in_default c =
-    let n = c.in_default.in_default-own.rest in
-    let other = range-rest c.args.row _ n.0.0.0.0.0.1 n.0.0.0.0.1 n.0.0.0.1 n.0.0.1 n.0.1 n.1 in
+    let other = range-rest c.args.row c.args.k (omega arith) (omega arith) (omega arith) (omega arith) (omega arith) (omega arith) in
     said c.put_resets.ensures (ap enc_value (sym other)) (omega arith)
