@@ -10,11 +10,11 @@ ghost use Rattle.item.specs.Face.{face_of};
 ghost use Rattle.item.specs.Laws.{Step};
 
 use token::Token;
-use value::End;
 
 // A value, seen flat. Places are those of the slice that it was read from.
 #[derive(Clone, Copy)]
 pub enum Slot {
+    // stays a slot, and no None around one: each reader asks for its kind in one match, and absent is a kind
     Absent,
     Int(u64),
     Bytes { at: usize, len: usize },
@@ -35,35 +35,16 @@ pub enum Item {
 }
 
 // A value by its first token, seen flat.
+#[tactic(auto, unfolding(crate::specs::Face::face_of))]
 fn flat(t: Token) -> Slot
     ensures { result ≡ face_of t }
 {
     match t {
-        Token::Int { value, next: _ } => {
-            return Slot::Int(value);
-        }
-        Token::Bytes {
-            start,
-            len,
-            next: _,
-        } => {
-            return Slot::Bytes {
-                at: start,
-                len: len,
-            };
-        }
-        Token::Control { code, next } => {
-            if code == 0xf0 {
-                return Slot::List(next);
-            }
-            return Slot::Named;
-        }
-        Token::End => {
-            return Slot::Absent;
-        }
-        Token::Broken => {
-            return Slot::Absent;
-        }
+        Token::Int { value, .. } => Slot::Int(value),
+        Token::Bytes { start, len, .. } => Slot::Bytes { at: start, len },
+        Token::Control { code: 0xf0, next } => Slot::List(next),
+        Token::Control { .. } => Slot::Named,
+        Token::End | Token::Broken => Slot::Absent,
     }
 }
 
@@ -71,23 +52,16 @@ fn flat(t: Token) -> Slot
 fn named(s: &[u8], at: usize, end: usize) -> Item
     ensures { (d : ℕ) (v : Value) → named_by (token_at s.now) (value_at s.now d) at ≡ ok v end → result ≡ item_of v end }
 {
-    let t = token::read(s, at);
-    match t {
-        Token::Int { value, next } => {
-            let u = token::read(s, next);
-            let x = flat(u);
-            return Item::Named {
-                name: value,
-                slot: x,
-                next: end,
-            };
-        }
-        _ => {
-            return Item::Plain {
-                slot: Slot::Named,
-                next: end,
-            };
-        }
+    match token::read(s, at) {
+        Token::Int { value, next } => Item::Named {
+            name: value,
+            slot: flat(token::read(s, next)),
+            next: end,
+        },
+        _ => Item::Plain {
+            slot: Slot::Named,
+            next: end,
+        },
     }
 }
 
@@ -96,31 +70,18 @@ pub fn step(s: &[u8], at: usize, depth: usize) -> Item
     ensures { result ≡ step_at s.now depth at }
 {
     let t = token::read(s, at);
-    let e = value::mark(t, 0xf1);
-    match e {
-        End::At(q) => {
-            return Item::Shut(q);
-        }
-        End::Broken => {
-            let v = value::opened_in(s, t, depth);
-            match v {
-                End::At(q) => {
-                    let n = value::mark(t, 0xf2);
-                    match n {
-                        End::At(p) => {
-                            return named(s, p, q);
-                        }
-                        End::Broken => {
-                            let x = flat(t);
-                            return Item::Plain { slot: x, next: q };
-                        }
-                    }
-                }
-                End::Broken => {
-                    return Item::Broken;
-                }
-            }
-        }
+    if let Some(end) = value::mark(t, 0xf1) {
+        return Item::Shut(end);
+    }
+    let Some(next) = value::opened_in(s, t, depth) else {
+        return Item::Broken;
+    };
+    match value::mark(t, 0xf2) {
+        Some(name) => named(s, name, next),
+        None => Item::Plain {
+            slot: flat(t),
+            next,
+        },
     }
 }
 

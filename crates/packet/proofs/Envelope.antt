@@ -12,8 +12,8 @@ use borrow.Author.Tests.{leb-true, le-leb, eqb-true, eq-eqb}
 use Rattle.token.specs.Bytes.{be_val, number_at}
 use Rattle.token.proofs.Laws.{lt-or-le, be_val-more, grows}
 use Rattle.token.proofs.Numbers.{number-there, number_short}
-use Rattle.packet.specs.declared.Opened.{Opened}
-use Rattle.packet.specs.declared.Opened.TheVariants as O
+use Rattle.std.specs.Prelude.{Option, Some, None}
+use Rattle.packet.specs.declared.Packet.{Packet}
 use Rattle.packet.specs.Envelope.{com_id, extension, kind, sub_length, packet_length, com_length, tsn_at, hsn_at, payload_start, pad_of, sealed, opened_of}
 
 -- what `sealed` tests
@@ -27,16 +27,12 @@ pub record Sealed (s : List ℕ) : Type 0 where
   pub there : 20 + com_length s ≤ length s
 
 -- what is read of a packet that is sealed
-abbrev pub told : List ℕ → Opened
-told s = O.Packet (record { 0 = tsn_at s }) (record { 0 = hsn_at s }) payload_start (sub_length s)
+abbrev pub told : List ℕ → Option Packet
+told s = Some (record { tsn = record { 0 = tsn_at s }; hsn = record { 0 = hsn_at s }; start = payload_start; len = sub_length s })
 
 pub both : (a b : Bool) → (a && b) ≡ true → (a ≡ true) × (b ≡ true)
 both true b e = (refl, e)
 both false b e = absurd (let z : ◌≡◌ {A = ℕ} 0 1 = cc in omega arith)
-
-pub refuted : (a : Bool) → (a ≡ true → ⊥) → a ≡ false
-refuted true h = absurd (h refl)
-refuted false h = refl
 
 module _ (s : List ℕ) where
   pub sealed-all : Sealed s → sealed s ≡ true
@@ -72,20 +68,20 @@ module _ (s : List ℕ) where
       }
 
   -- a property of both answers, each with what was tested
-  pub opened-by : (P : Opened → Type 0) → (Sealed s → P (told s))
-      → ((Sealed s → ⊥) → P O.Broken) → P (opened_of s)
+  pub opened-by : (P : Option Packet → Type 0) → (Sealed s → P (told s))
+      → ((Sealed s → ⊥) → P None) → P (opened_of s)
   unfolding opened_of
   opened-by P f g = go (sealed s) refl
     where
-      go : (t : Bool) → sealed s ≡ t → P (cond t (told s) O.Broken)
+      go : (t : Bool) → sealed s ≡ t → P (cond t (told s) None)
       go true e = f (all-sealed e)
       go false e = g (λ h. absurd (let z = sealed-all h in let z : ◌≡◌ {A = ℕ} 0 1 = cc in omega arith))
 
-  pub opened-broken : (Sealed s → ⊥) → O.Broken ≡ opened_of s
-  opened-broken h = opened-by (λ (o : Opened). O.Broken ≡ o) (λ f. absurd (h f)) (λ _. refl)
+  pub opened-broken : (Sealed s → ⊥) → None ≡ opened_of s
+  opened-broken h = opened-by (λ (o : Option Packet). None ≡ o) (λ f. absurd (h f)) (λ _. refl)
 
   pub opened-there : Sealed s → told s ≡ opened_of s
-  opened-there f = opened-by (λ (o : Opened). told s ≡ o) (λ _. refl) (λ h. absurd (h f))
+  opened-there f = opened-by (λ (o : Option Packet). told s ≡ o) (λ _. refl) (λ h. absurd (h f))
 
   -- n bytes make a number below 256 to the n
   bytes_small : ((i : ℕ) → get_or s i 0 < 256) → (at n : ℕ) → at + n ≤ length s → be_val 0 (take n (drop at s)) < 256 ^ n

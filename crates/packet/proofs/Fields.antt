@@ -9,7 +9,7 @@ use lib.Dec.{lit≤, lit<}
 use Rattle.token.specs.Bytes.{be_val, number_at}
 use Rattle.token.proofs.Laws.{be_val-more}
 use Rattle.token.proofs.Numbers.{number-there}
-use Rattle.packet.specs.declared.Opened.TheVariants as O
+use Rattle.std.specs.Prelude.{Some}
 use Rattle.packet.specs.Envelope.{tsn_at, hsn_at, sub_length, packet_length, com_length, pad_of, opened_of}
 use Rattle.packet.specs.Exact.{two, four, Envelope, Says}
 use Rattle.packet.proofs.Envelope.{Sealed, opened-by, opened-there}
@@ -80,7 +80,7 @@ module _ (s : List ℕ) where
       there = rw com-is e.received;
     }
 
-    pub said-taken : opened_of s ≡ O.Packet (record { 0 = tsn }) (record { 0 = hsn }) 56 len
+    pub said-taken : opened_of s ≡ Some (record { tsn = record { 0 = tsn }; hsn = record { 0 = hsn }; start = 56; len = len })
     said-taken =
         sym (opened-there s sealed-so)
         ∙ rw (four_is s 20 (omega (arith, long)) ∙ e.tsn_field, four_is s 24 (omega (arith, long)) ∙ e.hsn_field, sub_is)

@@ -10,7 +10,7 @@ use lib.Dec.{lit<, lit≤}
 use Rattle.token.specs.Bytes.{be_val, be_of, number_at}
 use Rattle.token.proofs.Laws.{be-val}
 use Rattle.token.proofs.Numbers.{number-there}
-use Rattle.packet.specs.declared.Opened.TheVariants as O
+use Rattle.std.specs.Prelude.{Some}
 use Rattle.packet.specs.Envelope.{tsn_at, hsn_at, sub_length, packet_length, com_length, pad_of, header, packet_of, opened_of, carried}
 use Rattle.packet.specs.Laws.{Says}
 use Rattle.packet.proofs.Envelope.{Sealed, opened-there}
@@ -50,7 +50,7 @@ module _ (tsn hsn n : ℕ) (q : List ℕ) where
           there = rw whole (simp (length-append, header-length) (omega arith));
         }
 
-    pub header-opened : opened_of (header tsn hsn n ++ q) ≡ O.Packet (record { 0 = tsn }) (record { 0 = hsn }) 56 n
+    pub header-opened : opened_of (header tsn hsn n ++ q) ≡ Some (record { tsn = record { 0 = tsn }; hsn = record { 0 = hsn }; start = 56; len = n })
     header-opened = sym (opened-there _ sealed-is) ∙ rw (tsn-is, hsn-is, sub_is)
 
 pub read_back : (tsn hsn : ℕ) (payload rest : List ℕ) → tsn < 2 ^ 32 → hsn < 2 ^ 32 → carried (length payload) ≡ true → Says (packet_of tsn hsn payload ++ rest) tsn hsn payload

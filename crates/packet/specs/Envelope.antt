@@ -1,10 +1,9 @@
 -- The envelope: ComPacket of 20 bytes, Packet of 24, Subpacket of 12, the payload and its pad. "All fields big-endian".
-use Rattle.std.specs.Prelude.{ℕ, ◌+◌, ◌-◌, ◌%◌, List, ◌++◌, Bool, ◌&&◌, cond, length, take, drop, replicate, leb, ltb, eqb}
-use Rattle.token.specs.declared.Put.{Put}
-use Rattle.token.specs.declared.Put.TheVariants as P
+use Rattle.std.specs.Prelude.{ℕ, ◌+◌, ◌-◌, ◌%◌, List, ◌++◌, Bool, ◌&&◌, cond, length, take, drop, replicate, leb, ltb, eqb, Option, Some, None, Result, Ok, Err}
+use Rattle.token.specs.declared.PutError.{PutError}
+use Rattle.token.specs.declared.PutError.TheVariants as P
 use Rattle.token.specs.Bytes.{be_of, number_at}
-use Rattle.packet.specs.declared.Opened.{Opened}
-use Rattle.packet.specs.declared.Opened.TheVariants as O
+use Rattle.packet.specs.declared.Packet.{Packet}
 
 -- ComPacket: reserved 4, ComID 2, extension 2, OutstandingData 4, MinTransfer 4, Length 4
 abbrev pub com_id : List ℕ → ℕ
@@ -52,13 +51,13 @@ sealed s =
     && (eqb (com_length s) (24 + packet_length s)
     && leb (20 + com_length s) (length s))))))
 
-unfoldable pub opened_of : List ℕ → Opened
-opened_of s = cond (sealed s) (O.Packet (record { 0 = tsn_at s }) (record { 0 = hsn_at s }) payload_start (sub_length s)) O.Broken
+unfoldable pub opened_of : List ℕ → Option Packet
+opened_of s = cond (sealed s) (Some (record { tsn = record { 0 = tsn_at s }; hsn = record { 0 = hsn_at s }; start = payload_start; len = sub_length s })) None
 
 -- the number of document 01: 4, envelope broken; a packet that is opened is not turned away here
-abbrev pub number_of : Opened → ℕ
-number_of (O.Packet tsn hsn start len) = 0
-number_of O.Broken = 4
+abbrev pub number_of : Option Packet → ℕ
+number_of (Some packet) = 0
+number_of None = 4
 
 -- what stands before a payload of n bytes: other fields are zero
 unfoldable pub header : ℕ → ℕ → ℕ → List ℕ
@@ -76,8 +75,8 @@ unfoldable pub carried : ℕ → Bool
 carried n = leb 1 n && ltb (36 + n + pad_of n) 0x100000000
 
 -- the payload of n bytes stands in d where it belongs; what the writer answers
-unfoldable pub seal_end : ℕ → ℕ → Put
-seal_end room n = cond (carried n) (cond (leb (payload_start + n + pad_of n) room) (P.At (payload_start + n + pad_of n)) P.Full) P.Outside
+unfoldable pub seal_end : ℕ → ℕ → Result ℕ PutError
+seal_end room n = cond (carried n) (cond (leb (payload_start + n + pad_of n) room) (Ok (payload_start + n + pad_of n)) (Err P.Full)) (Err P.Outside)
 
 -- and what d holds then
 unfoldable pub seal_all : List ℕ → ℕ → ℕ → ℕ → List ℕ

@@ -1,7 +1,6 @@
 -- The envelope field by field, each with its offset: exactly which requests are opened and what is read from them, and every byte that is written.
-use Rattle.std.specs.Prelude.{ℕ, ◌+◌, ◌*◌, ◌%◌, ◌≤◌, ◌<◌, ◌^◌, ◌≡◌, List, length, get_or, take, drop}
-use Rattle.packet.specs.declared.Opened.{Opened}
-use Rattle.packet.specs.declared.Opened.TheVariants as O
+use Rattle.std.specs.Prelude.{ℕ, ◌+◌, ◌*◌, ◌%◌, ◌≤◌, ◌<◌, ◌^◌, ◌≡◌, List, length, get_or, take, drop, Option, Some, None}
+use Rattle.packet.specs.declared.Packet.{Packet}
 use Rattle.packet.specs.Envelope.{opened_of, packet_of}
 
 -- "All fields big-endian": the two bytes from p on, and the four
@@ -29,9 +28,9 @@ pub record Envelope (s : List ℕ) (tsn hsn len : ℕ) : Type 0 where
   pub payload : 1 ≤ len
 
 -- a request that is opened; broken is what is left
-abbrev pub Says : List ℕ → Opened → Type 0
-Says s (O.Packet tsn hsn start len) = (start ≡ 56) × Envelope s tsn.0 hsn.0 len
-Says s O.Broken = Unit {0}
+abbrev pub Says : List ℕ → Option Packet → Type 0
+Says s (Some packet) = (packet.start ≡ 56) × Envelope s packet.tsn.0 packet.hsn.0 packet.len
+Says s None = Unit {0}
 
 -- the bytes from a up to b are zero
 abbrev pub Zero : List ℕ → ℕ → ℕ → Type 0
@@ -52,7 +51,7 @@ pub record Written (s : List ℕ) (tsn hsn : ℕ) (payload : List ℕ) : Type 0 
   pub bytes : ((j : ℕ) → get_or payload j 0 < 256) → (i : ℕ) → get_or s i 0 < 256
 
 pub record FieldsAsSaid : Type 0 where
-  pub taken : (s : List ℕ) (tsn hsn len : ℕ) → Envelope s tsn hsn len → opened_of s ≡ O.Packet (record { 0 = tsn }) (record { 0 = hsn }) 56 len
+  pub taken : (s : List ℕ) (tsn hsn len : ℕ) → Envelope s tsn hsn len → opened_of s ≡ Some (record { tsn = record { 0 = tsn }; hsn = record { 0 = hsn }; start = 56; len = len })
   pub only : (s : List ℕ) → Says s (opened_of s)
   pub written : (tsn hsn : ℕ) (payload : List ℕ) → tsn < 2 ^ 32 → hsn < 2 ^ 32 → 1 ≤ length payload → length payload + 39 < 2 ^ 32
       → Written (packet_of tsn hsn payload) tsn hsn payload

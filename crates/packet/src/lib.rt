@@ -7,7 +7,7 @@ ghost use Rattle.packet.specs.Envelope.{pad_of, opened_of, header, seal_end, sea
 ghost use Rattle.packet.specs.Laws.{ReadBack, Inside, Padded};
 ghost use Rattle.packet.specs.Exact.{FieldsAsSaid};
 
-use token::Put;
+use token::PutError;
 
 // The card's number of a session. Not the host's: the two are types of their own, so that a swap does not compile.
 #[derive(Clone, Copy)]
@@ -17,19 +17,17 @@ pub struct Tsn(pub u32);
 #[derive(Clone, Copy)]
 pub struct Hsn(pub u32);
 
+// A packet that is opened: whose session it is, and where the payload stands.
 #[derive(Clone, Copy)]
-pub enum Opened {
-    // whose session it is, and where the payload stands
-    Packet {
-        tsn: Tsn,
-        hsn: Hsn,
-        start: usize,
-        len: usize,
-    },
-    Broken,
+pub struct Packet {
+    pub tsn: Tsn,
+    pub hsn: Hsn,
+    pub start: usize,
+    pub len: usize,
 }
 
 // The pad bytes after n bytes.
+#[tactic(auto, unfolding(crate::specs::Envelope::pad_of))]
 fn pad(n: usize) -> usize
     ensures { (result ≡ pad_of n) × (result < 4) }
 {
@@ -37,56 +35,45 @@ fn pad(n: usize) -> usize
 }
 
 // A field of four bytes, and 0 where it is not there.
-fn field(s: &[u8], at: usize) -> usize
-    ensures { (result ≡ number_at s.now at 4) × (result < 0x100000000) }
+fn field(s: &[u8], at: usize) -> u32
+    ensures { result ≡ number_at s.now at 4 }
 {
-    token::number_at(s, at, 4) as usize
+    token::number_at(s, at, 4) as u32
 }
 
-// Reads the envelope of a request. The fields are below 2^32 and the sums are made in 64 bits: none wraps.
-pub fn open(s: &[u8]) -> Opened
+// Reads the envelope of a request; none where it is broken. The fields are below 2^32 and the sums are made in 64 bits: none wraps.
+#[tactic(auto, using(std::proofs::lemmas::Bool::Decides::nat_tests), unfolding(crate::specs::Envelope::sealed, crate::specs::Envelope::opened_of))]
+pub fn open(s: &[u8]) -> Option<Packet>
     ensures { result ≡ opened_of s.now }
 {
-    if token::number_at(s, 4, 2) != 0x1000 {
-        return Opened::Broken;
+    let len = field(s, 52) as usize;
+    let packet = field(s, 40) as usize;
+    let com = field(s, 16) as usize;
+    if token::number_at(s, 4, 2) != 0x1000
+        || token::number_at(s, 6, 2) != 0
+        || token::number_at(s, 50, 2) != 0
+        || len < 1
+        || packet != 12 + len + pad(len)
+        || com != 24 + packet
+        || s.len() < 20 + com
+    {
+        return None;
     }
-    if token::number_at(s, 6, 2) != 0 {
-        return Opened::Broken;
-    }
-    if token::number_at(s, 50, 2) != 0 {
-        return Opened::Broken;
-    }
-    let len = field(s, 52);
-    if len < 1 {
-        return Opened::Broken;
-    }
-    let packet = field(s, 40);
-    if packet != 12 + len + pad(len) {
-        return Opened::Broken;
-    }
-    let com = field(s, 16);
-    if com != 24 + packet {
-        return Opened::Broken;
-    }
-    if s.len() < 20 + com {
-        return Opened::Broken;
-    }
-    let tsn = Tsn(field(s, 20) as u32);
-    let hsn = Hsn(field(s, 24) as u32);
-    Opened::Packet {
-        tsn: tsn,
-        hsn: hsn,
+    Some(Packet {
+        tsn: Tsn(field(s, 20)),
+        hsn: Hsn(field(s, 24)),
         start: 56,
-        len: len,
-    }
+        len,
+    })
 }
 
 // The lowest k bytes of v, the highest first, from at on.
+#[tactic(auto, using(token::proofs::Writes::writes))]
 fn put_number(out: &mut [u8], at: usize, k: usize, v: usize)
     requires { at + k ≤ length out.old }
     ensures { out.new ≡ over out.old at (be_of k v) }
 {
-    token::put_number(out, at, k, v as u64);
+    let _ = token::put_number(out, at, k, v as u64);
 }
 
 // The 56 bytes before a payload of n bytes: all zero but for six fields.
@@ -95,7 +82,7 @@ fn put_header(out: &mut [u8], tsn: Tsn, hsn: Hsn, n: usize)
     ensures { out.new ≡ header tsn.0 hsn.0 n ++ drop 56 out.old }
 {
     let packet = 12 + n + pad(n);
-    put_number(out, 0, 56, 0);
+    out[..56].fill(0);
     // ComPacket: ComID, Length
     put_number(out, 4, 2, 0x1000);
     put_number(out, 16, 4, 24 + packet);
@@ -108,23 +95,22 @@ fn put_header(out: &mut [u8], tsn: Tsn, hsn: Hsn, n: usize)
 }
 
 // Puts the envelope around the payload of n bytes that stands in out from byte 56 on.
-pub fn seal(out: &mut [u8], tsn: Tsn, hsn: Hsn, n: usize) -> Put
+#[tactic(auto, using(crate::proofs::Writes::seals), unfolding(crate::specs::Envelope::seal_end, crate::specs::Envelope::seal_all))]
+pub fn seal(out: &mut [u8], tsn: Tsn, hsn: Hsn, n: usize) -> Result<usize, PutError>
     ensures answer { result ≡ seal_end (length out.old) n }
     ensures buffer { out.new ≡ seal_all out.old tsn.0 hsn.0 n }
 {
     let p = pad(n);
-    if n < 1 {
-        return Put::Outside;
+    if n < 1 || 0xffffffff - 36 - p < n {
+        return Err(PutError::Outside);
     }
-    if 0xffffffff - 36 - p < n {
-        return Put::Outside;
-    }
-    if out.len() < 56 + n + p {
-        return Put::Full;
+    let end = 56 + n + p;
+    if out.len() < end {
+        return Err(PutError::Full);
     }
     put_header(out, tsn, hsn, n);
-    put_number(out, 56 + n, p, 0);
-    Put::At(56 + n + p)
+    out[56 + n..end].fill(0);
+    Ok(end)
 }
 
 // What is written is read as the same TSN, HSN and payload.

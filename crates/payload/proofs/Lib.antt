@@ -1,5 +1,4 @@
 pub mod Steps
-pub mod Tokens
 pub mod Worked
 pub mod Taken
 pub mod Only

@@ -1,18 +1,17 @@
 -- Going on from where something ends, as the code does; and a list as F0 and what it holds.
 use Prim.Native.Nat.{ℕ}
-use mathlib.Core.Path.{◌≡◌, refl, ◌∙◌}
+use mathlib.Core.Path.{◌≡◌, refl, ap, ◌∙◌}
 use mathlib.Core.List.{List}
 use mathlib.Core.Bool.{Bool, true, false, cond}
 use lib.Dec.{eqb}
+use Rattle.std.specs.Prelude.{Some, None}
 use Rattle.token.specs.declared.Token.{Token}
 use Rattle.token.specs.declared.Token.TheVariants as K
 use Rattle.token.specs.Token.{token_at}
-use Rattle.value.specs.declared.End.{End}
-use Rattle.value.specs.declared.End.TheVariants as E
 use Rattle.value.specs.Value.{Value, named, list}
 use Rattle.value.specs.Read.{Out, ok, bad, then, end_of, mark_of, atom_is, values_by, list_by, named_by, nest_by, value_of, value_by, value_at, values_at}
 use Rattle.payload.specs.Payload.{mark_at, list_is, list_at}
-use Rattle.payload.specs.After.{after}
+use Rattle.value.proofs.Outs.{end_is, then-bad}
 
 module _ {A B : Type 0} where
   none : (o : Out A) (k : A → ℕ → Out B) → ((a : A) (q : ℕ) → k a q ≡ bad) → then o k ≡ bad
@@ -26,16 +25,9 @@ module _ {A B : Type 0} where
   both bad k l = refl
 
   -- only where it ends matters
-  ends : (o : Out A) (k : ℕ → Out B) → then o (λ a q. k q) ≡ after (end_of o) k
-  unfolding then end_of after
-  ends (ok a q) k = refl
-  ends bad k = refl
-
-  -- m is read after e and ends at r: what goes on from e goes on from r
-  pub on : (e r : End) (m : ℕ → Out A) (k : ℕ → Out B) → r ≡ end_of (after e m) → after e (λ p. then (m p) (λ a q. k q)) ≡ after r k
-  unfolding after end_of
-  on (E.At p) r m k h = rw h (ends (m p) k)
-  on E.Broken r m k h = rw h
+  pub on : (o : Out A) (k : ℕ → Out B) (q : ℕ) → end_of o ≡ Some q → then o (λ a r. k r) ≡ k q
+  unfolding then
+  on o k q e = let h = end_is o q e in rw h.1
 
 -- a value that is a list is F0 and what a list holds, one level further in
 module _ (tok : ℕ → Token) (f : ℕ → Out Value) (n : ℕ) where
@@ -65,10 +57,14 @@ module _ (s : List ℕ) (p : ℕ) where
   list-is = list-by (token_at s) (value_at s 15) _ (token_at s p)
 
   module _ {A : Type 0} (k : ℕ → ℕ → Out A) where
-    pub no-list : end_of (mark_at s 0xf0 p) ≡ E.Broken → then (list_at s p) k ≡ bad
-    unfolding after then
-    no-list h = rw (list-is, ends (mark_at s 0xf0 p) (λ b. then (values_at s 15 b) (λ vs q. ok b q)), h)
+    pub no-list : end_of (mark_at s 0xf0 p) ≡ None → then (list_at s p) k ≡ bad
+    unfolding then
+    no-list h = ap (λ (o : Out ℕ). then o k) (list-is ∙ then-bad _ _ h)
 
-    pub in_list : (b : ℕ) (e : End) → end_of (mark_at s 0xf0 p) ≡ E.At b → e ≡ end_of (values_at s 15 b) → then (list_at s p) k ≡ after e (k b)
-    unfolding after then
-    in_list b e h i = rw (list-is, ends (mark_at s 0xf0 p) (λ b. then (values_at s 15 b) (λ vs q. ok b q)), h, i) (both (values_at s 15 b) (λ vs q. ok b q) k ∙ ends (values_at s 15 b) (k b))
+    pub no-values : (b : ℕ) → end_of (mark_at s 0xf0 p) ≡ Some b → end_of (values_at s 15 b) ≡ None → then (list_at s p) k ≡ bad
+    unfolding then
+    no-values b h i = ap (λ (o : Out ℕ). then o k) (list-is ∙ on _ _ _ h ∙ then-bad _ _ i)
+
+    pub in_list : (b q : ℕ) → end_of (mark_at s 0xf0 p) ≡ Some b → end_of (values_at s 15 b) ≡ Some q → then (list_at s p) k ≡ k b q
+    unfolding then
+    in_list b q h i = ap (λ (o : Out ℕ). then o k) (list-is ∙ on _ _ _ h ∙ on _ _ _ i)

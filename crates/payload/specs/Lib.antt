@@ -1,4 +1,4 @@
 -- The definitions that the contracts of `payload` cite.
 pub mod Payload
-pub mod After
+pub mod Found
 pub mod Exact

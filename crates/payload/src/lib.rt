@@ -2,13 +2,13 @@
 #![tactic(auto)]
 
 ghost use Rattle.std.specs.Prelude.{◌≡◌};
-ghost use Rattle.value.specs.Read.{ok, then, end_of};
-ghost use Rattle.payload.specs.Payload.{mark_at, atom_at, uid_at, int_at, status_at, call_at, finish_is, last_of, payload_at};
-ghost use Rattle.payload.specs.After.{after, uid_out};
+ghost use Rattle.token.specs.Token.{token_at};
+ghost use Rattle.value.specs.Read.{then, end_of};
+ghost use Rattle.payload.specs.Payload.{atom_at, uid_at, int_at, status_at, call_at, finish_is, starts_by, payload_at};
+ghost use Rattle.payload.specs.Found.{found};
 ghost use Rattle.payload.specs.Exact.{PayloadsAsSaid, Skipped};
 
 use token::Token;
-use value::End;
 
 #[derive(Clone, Copy)]
 pub enum Payload {
@@ -22,155 +22,99 @@ pub enum Payload {
     Begin,
     Commit,
     Abandon,
-    Broken,
-}
-
-#[derive(Clone, Copy)]
-enum Uid {
-    Is { value: u64, next: usize },
+    // stays a kind of its own, and no None: document 01 names a broken payload among those that are answered
     Broken,
 }
 
 // The UID at at, as a number, and its end.
-fn uid_at(s: &[u8], at: usize) -> Uid
-    ensures { uid_at s.now at ≡ uid_out result }
+#[tactic(auto, unfolding(value::specs::Read::then, value::specs::Read::atom_is, crate::specs::Payload::uid_is, crate::specs::Found::found))]
+fn uid_at(s: &[u8], at: usize) -> Option<(u64, usize)>
+    ensures { uid_at s.now at ≡ found result }
 {
-    let t = token::read(s, at);
-    let Token::Bytes { start, len, next } = t else {
-        return Uid::Broken;
-    };
-    if len == 8 {
-        let value = token::number_at(s, start, 8);
-        return Uid::Is { value, next };
+    match token::read(s, at) {
+        Token::Bytes { start, len, next } if len == 8 => {
+            Some((token::number_at(s, start, 8), next))
+        }
+        _ => None,
     }
-    Uid::Broken
 }
 
-// The end of the integer w, if that stands after e, the end of what was read before. What is broken stays broken.
-fn int_after(s: &[u8], e: End, w: u64) -> End
-    ensures { result ≡ end_of (after e (int_at s.now w)) }
+// The end of the integer w, if that stands at at.
+#[tactic(auto, unfolding(value::specs::Read::then, value::specs::Read::end_of, value::specs::Read::atom_is, crate::specs::Payload::int_is))]
+fn int_at(s: &[u8], at: usize, w: u64) -> Option<usize>
+    ensures { result ≡ end_of (int_at s.now w at) }
 {
-    let End::At(at) = e else {
-        return End::Broken;
-    };
-    let t = token::read(s, at);
-    let Token::Int { value, next } = t else {
-        return End::Broken;
-    };
-    if value == w {
-        return End::At(next);
+    match token::read(s, at) {
+        Token::Int { value, next } if value == w => Some(next),
+        _ => None,
     }
-    End::Broken
 }
 
-// The end of the control token code, if that stands after e.
-fn mark_after(s: &[u8], e: End, code: u8) -> End
-    ensures { result ≡ end_of (after e (mark_at s.now code)) }
+// The end of the status list at at: three zeros.
+fn status_at(s: &[u8], at: usize) -> Option<usize>
+    ensures { result ≡ end_of (status_at s.now at) }
 {
-    let End::At(at) = e else {
-        return End::Broken;
-    };
-    value::mark_at(s, at, code)
+    let a = value::mark_at(s, at, 0xf0)?;
+    let b = int_at(s, a, 0)?;
+    let c = int_at(s, b, 0)?;
+    let d = int_at(s, c, 0)?;
+    value::mark_at(s, d, 0xf1)
 }
 
-// The end of the status list after e: three zeros.
-fn status_after(s: &[u8], e: End) -> End
-    ensures { result ≡ end_of (after e (status_at s.now)) }
+// What follows F8, and its end: a call, with F9 and the status behind its list.
+fn call_at(s: &[u8], at: usize) -> Option<(Payload, usize)>
+    ensures { call_at s.now at ≡ found result }
 {
-    let a = mark_after(s, e, 0xf0);
-    let b = int_after(s, a, 0);
-    let c = int_after(s, b, 0);
-    let d = int_after(s, c, 0);
-    mark_after(s, d, 0xf1)
-}
-
-// The payload p, if nothing follows e.
-fn last_after(s: &[u8], e: End, p: Payload) -> Payload
-    ensures { result ≡ last_of s.now (after e (ok p)) }
-{
-    let End::At(at) = e else {
-        return Payload::Broken;
-    };
-    let follows = token::read(s, at);
-    let Token::End = follows else {
-        return Payload::Broken;
-    };
-    p
-}
-
-// The call p whose list ends with e, if F9, the status and nothing more follow.
-fn close_after(s: &[u8], e: End, p: Payload) -> Payload
-    ensures { result ≡ last_of s.now (after e (λ c. then (mark_at s.now 0xf9 c) (λ u d. then (status_at s.now d) (λ u e. ok p e)))) }
-{
-    let a = mark_after(s, e, 0xf9);
-    let b = status_after(s, a);
-    last_after(s, b, p)
-}
-
-// What follows F8.
-fn call_at(s: &[u8], at: usize) -> Payload
-    ensures { result ≡ last_of s.now (call_at s.now at) }
-{
-    let a = uid_at(s, at);
-    let Uid::Is {
-        value: object,
-        next: p,
-    } = a
-    else {
-        return Payload::Broken;
-    };
-    let b = uid_at(s, p);
-    let Uid::Is {
-        value: method,
-        next: q,
-    } = b
-    else {
-        return Payload::Broken;
-    };
-    let c = value::mark_at(s, q, 0xf0);
-    let End::At(params) = c else {
-        return Payload::Broken;
-    };
-    let d = value::list_at(s, params, 15);
+    let (object, a) = uid_at(s, at)?;
+    let (method, b) = uid_at(s, a)?;
+    let params = value::mark_at(s, b, 0xf0)?;
+    let c = value::list_at(s, params, 15)?;
+    let d = value::mark_at(s, c, 0xf9)?;
+    let e = status_at(s, d)?;
     let call = Payload::Call {
         object,
         method,
         params,
     };
-    close_after(s, d, call)
+    Some((call, e))
 }
 
-// What follows FC.
-fn finish_at(s: &[u8], at: usize) -> Payload
-    ensures { result ≡ last_of s.now (then (atom_at s.now at) finish_is) }
+// What follows FC, and its end.
+#[tactic(auto, unfolding(value::specs::Read::then, value::specs::Read::atom_is, crate::specs::Payload::finish_is, crate::specs::Found::found))]
+fn finish_at(s: &[u8], at: usize) -> Option<(Payload, usize)>
+    ensures { then (atom_at s.now at) finish_is ≡ found result }
 {
-    let t = token::read(s, at);
-    let Token::Int { value, next } = t else {
-        return Payload::Broken;
+    match token::read(s, at) {
+        Token::Int { value: 0, next } => Some((Payload::Commit, next)),
+        Token::Int { value: 1, next } => Some((Payload::Abandon, next)),
+        _ => None,
+    }
+}
+
+// What starts at at, and its end.
+#[tactic(auto, unfolding(value::specs::Read::then, value::specs::Read::end_of, crate::specs::Payload::starts_by, crate::specs::Found::found))]
+fn starts_at(s: &[u8], at: usize) -> Option<(Payload, usize)>
+    ensures { starts_by s.now (token_at s.now at) ≡ found result }
+{
+    let Token::Control { code, next } = token::read(s, at) else {
+        return None;
     };
-    match value {
-        0 => last_after(s, End::At(next), Payload::Commit),
-        1 => last_after(s, End::At(next), Payload::Abandon),
-        _ => Payload::Broken,
+    match code {
+        0xf8 => call_at(s, next),
+        0xfa => Some((Payload::EndSession, next)),
+        0xfb => Some((Payload::Begin, int_at(s, next, 0)?)),
+        0xfc => finish_at(s, next),
+        _ => None,
     }
 }
 
 // The payload that stands in s from at on, and ends with s.
+#[tactic(auto, unfolding(crate::specs::Payload::last_of, crate::specs::Payload::is_end, crate::specs::Found::found))]
 pub fn parse(s: &[u8], at: usize) -> Payload
     ensures { result ≡ payload_at s.now at }
 {
-    let t = token::read(s, at);
-    let Token::Control { code, next } = t else {
-        return Payload::Broken;
-    };
-    match code {
-        0xf8 => call_at(s, next),
-        0xfa => last_after(s, End::At(next), Payload::EndSession),
-        0xfb => {
-            let a = int_after(s, End::At(next), 0);
-            last_after(s, a, Payload::Begin)
-        }
-        0xfc => finish_at(s, next),
+    match starts_at(s, at) {
+        Some((p, end)) if matches!(token::read(s, end), Token::End) => p,
         _ => Payload::Broken,
     }
 }

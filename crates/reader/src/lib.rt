@@ -7,14 +7,14 @@ ghost use Rattle.reader.specs.Reader.{kind_of, call_of};
 
 use payload::Payload;
 
-// The number of what stands in s from at on, and ends with s: 0 broken, 1 a call, 2 end of session, 3 begin, 4 commit, 5 abandon.
+// The number of what stands in s from at on, and ends with s, for C: 0 broken, 1 a call, 2 end of session, 3 begin, 4 commit, 5 abandon.
 // Of a call the object, the method and the place of its parameters stand in words afterwards; else they are as they were.
+#[tactic(auto, unfolding(crate::specs::Reader::kind_of, crate::specs::Reader::call_of))]
 pub fn flamepocket_read_payload(s: &[u8], at: usize, words: &mut [u64; 3]) -> usize
     ensures kind { result ≡ kind_of (payload_at s.now at) }
     ensures call { words.new ≡ call_of words.old (payload_at s.now at) }
 {
-    let p = payload::parse(s, at);
-    match p {
+    match payload::parse(s, at) {
         Payload::Broken => 0,
         Payload::Call {
             object,

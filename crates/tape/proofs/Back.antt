@@ -1,4 +1,5 @@
 -- What is written from a tape stands in the bytes, and what is read to a tape stands on it: the same value.
+use Rattle.std.specs.Prelude.{Ok, Err, Result}
 use Prim.Native.Nat.{ℕ, zero, suc, ◌+◌, ◌*◌, ◌/◌, ◌^◌, ◌≤◌, ◌<◌}
 use mathlib.Core.Path.{◌≡◌, refl, sym, ap, ◌∙◌}
 use mathlib.Core.List.{List, [], ◌∷◌, ◌++◌, append_assoc}
@@ -8,7 +9,6 @@ use lib.ListN.{length, drop, get_or, length-take, length-drop}
 use lib.Seq.{get_or-drop}
 use lib.Dec.{leb, lit≤}
 use borrow.Author.Tests.{leb-true}
-use Rattle.token.specs.declared.Put.TheVariants as P
 use Rattle.token.specs.Token.{token_at}
 use Rattle.token.specs.Write.{max_bytes, put_end, put_all}
 use Rattle.token.proofs.Least.{bytes_fit}
@@ -18,7 +18,9 @@ use Rattle.value.specs.Read.{Out, ok, bad, value_at}
 use Rattle.value.specs.Source.{shape_of, node_at, tree_at}
 use Rattle.value.specs.Plain.{Plain, atom_in, plain_in, plains_in}
 use Rattle.value.proofs.Nodes.{node_in, node-held, shape-int, shape-part, shape-control, part-ok}
-use Rattle.tape.specs.declared.Took.TheVariants as T
+use Rattle.tape.specs.declared.Took.{Took}
+use Rattle.tape.specs.declared.TookError.{TookError}
+use Rattle.tape.specs.declared.TookError.TheVariants as T
 use Rattle.tape.specs.Write.{enc_value, Small, Within, AllWithin, wrote_end, wrote_all}
 use Rattle.tape.specs.Words.{atom_words, words, took_end, took_all}
 use Rattle.tape.specs.Laws.{Says, Below, Written, Laid}
@@ -109,21 +111,26 @@ module _ (r : List ℕ) (m : ℕ) where
       (k + 1, tok-laid x k (flat tok_words xs ++ y) s.0 e₁, row_laid xs (k + 1) q y s.1 (rw l at (behind r (k * 3) (tok_words x) (flat tok_words xs ++ y) e₁)) (omega arith))
 
 -- ---- what the answers say
-told_at : (n at z : ℕ) (x : List ℕ) → put_end true n at x ≡ P.At z → (at + length x ≤ n) × (z ≡ at + length x)
+told_at : (n at z : ℕ) (x : List ℕ) → put_end true n at x ≡ Ok z → (at + length x ≤ n) × (z ≡ at + length x)
 told_at n at z x e = let h : (true ≡ true) × (at + length x ≤ n) × (z ≡ at + length x) = rw e at (told true n at x) in (h.1, h.2)
 
-took-at : (n k j y q : ℕ) (v : Value) → took_end n k (ok v q) ≡ T.At j y → (k * 3 + length (words v) ≤ n) × (j ≡ k + length (words v) / 3) × (y ≡ q)
+took-at : (n k j y q : ℕ) (v : Value) → took_end n k (ok v q) ≡ Ok (record { node = j; next = y })
+    → (k * 3 + length (words v) ≤ n) × (j ≡ k + length (words v) / 3) × (y ≡ q)
 unfolding took_end
 took-at n k j y q v = go (leb (k * 3 + length (words v)) n) refl
   where
-    go : (b : Bool) → leb (k * 3 + length (words v)) n ≡ b → cond b (T.At (k + length (words v) / 3) q) T.Full ≡ T.At j y → (k * 3 + length (words v) ≤ n) × (j ≡ k + length (words v) / 3) × (y ≡ q)
-    go true h e = (leb-true (k * 3 + length (words v)) n h, cc, cc)
+    go : (b : Bool) → leb (k * 3 + length (words v)) n ≡ b
+        → cond {A = Result Took TookError} b (Ok (record { node = k + length (words v) / 3; next = q })) (Err T.Full) ≡ Ok (record { node = j; next = y })
+        → (k * 3 + length (words v) ≤ n) × (j ≡ k + length (words v) / 3) × (y ≡ q)
+    go true h e =
+        let r : ◌≡◌ {A = Took} (record { node = k + length (words v) / 3; next = q }) (record { node = j; next = y }) = cc in
+        (leb-true (k * 3 + length (words v)) n h, sym (ap (λ (x : Took). x.node) r), sym (ap (λ (x : Took). x.next) r))
     go false h e = absurd (let w : ◌≡◌ {A = ℕ} 0 1 = cc in omega arith)
 
 -- ---- the laws
 module _ (t bs out : List ℕ) (i at z : ℕ) (h : Below (2 ^ 64) t) where
   -- whatever stands on the tape
-  wrote : (o : Out Value) (w : List ℕ) → Holds (Stands (node_at t (length bs)) 16 i) o → w ≡ wrote_all bs out at o → wrote_end bs (length out) at o ≡ P.At z
+  wrote : (o : Out Value) (w : List ℕ) → Holds (Stands (node_at t (length bs)) 16 i) o → w ≡ wrote_all bs out at o → wrote_end bs (length out) at o ≡ Ok z
       → (x : Plain) × (q : ℕ) × Says bs o x q × Says w (value_at w 16 at) x z
   unfolding wrote_end wrote_all
   wrote (ok v q) w s e f =
@@ -151,7 +158,7 @@ module _ (s u : List ℕ) (p k j y : ℕ) (h : Below 256 s) where
       rw b.1 (b.2 s, refl)
 
   -- whatever stands in the bytes
-  took : (o : Out Value) → Holds (Stands (token_at s) 16 p) o → took_end (length u) k o ≡ T.At j y → (x : Plain) × Says s o x y × Says s (tree_at (took_all u k o) s 16 k) x j
+  took : (o : Out Value) → Holds (Stands (token_at s) 16 p) o → took_end (length u) k o ≡ Ok (record { node = j; next = y }) → (x : Plain) × Says s o x y × Says s (tree_at (took_all u k o) s 16 k) x j
   unfolding took_end took_all
   took (ok v q) m e =
       let c = took-at (length u) k j y q v e in

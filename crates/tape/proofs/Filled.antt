@@ -1,16 +1,16 @@
 -- The writer's loops: nodes measured, and nodes put, one behind another.
+use Rattle.std.specs.Prelude.{Ok, Err, Some}
 use Prim.Native.Nat.{ℕ, ◌+◌, ◌-◌, ◌/◌, ◌≤◌, ◌<◌}
 use mathlib.Core.Path.{◌≡◌, sym, ap, ◌∙◌}
 use mathlib.Core.List.{List, [], ◌∷◌, ◌++◌}
 use mathlib.Core.Bool.{true}
 use native.Mathlib.Omega.{arith}
 use lib.ListN.{length, length-append}
-use Rattle.token.specs.declared.Put.TheVariants as P
+use Rattle.token.specs.declared.PutError.TheVariants as P
 use Rattle.token.specs.declared.Token.{Token}
 use Rattle.token.specs.Bytes.{over}
 use Rattle.token.specs.Write.{put_all}
 use Rattle.token.proofs.Writes.{put-fits, put_full, all-fits}
-use Rattle.value.specs.declared.End.TheVariants as E
 use Rattle.value.specs.Value.{Value}
 use Rattle.value.specs.Read.{Out, end_of}
 use Rattle.value.specs.Source.{node_at, tree_at}
@@ -41,7 +41,7 @@ module _ (t bs : List ℕ) (i q at : ℕ) where
   abbrev Next : List Tok → ℕ → ℕ → Type 0
   Next xs j p = (x : Tok) × (enc_token bs (tok j) ≡ tok_bytes bs x) × Behind (xs ++ (x ∷ [])) (j + 1) (p + length (tok_bytes bs x)) × (p + length (tok_bytes bs x) ≤ at + length whole)
 
-  behind-first : end_of tree ≡ E.At q → Behind [] i at
+  behind-first : end_of tree ≡ Some q → Behind [] i at
   behind-first e = (passed_first tok (row_of tree) q i (row_is tok 16 i q tree (value_row tok (length t / 3) 16 i) e), rw (flat-none (tok_bytes bs)) (omega arith))
 
   behind-next : (xs : List Tok) (j p : ℕ) → j < q → Behind xs j p → Next xs j p
@@ -63,17 +63,17 @@ module _ (t bs : List ℕ) (i q at : ℕ) where
   abbrev pub Measured : ℕ → ℕ → ℕ → Type 0
   Measured n j p = (xs : List Tok) × Behind xs j p × (p ≤ n)
 
-  module _ (n : ℕ) (e : end_of tree ≡ E.At q) where
-    full : n < at + length whole → P.Full ≡ wrote_end bs n at tree
+  module _ (n : ℕ) (e : end_of tree ≡ Some q) where
+    full : n < at + length whole → Err P.Full ≡ wrote_end bs n at tree
     full h = sym (wrote-end bs at q n tree e ∙ put_full n at whole h)
 
-    pub measure-none : n < at → P.Full ≡ wrote_end bs n at tree
+    pub measure-none : n < at → Err P.Full ≡ wrote_end bs n at tree
     measure-none h = full (omega arith)
 
     pub measure-first : at ≤ n → Measured n i at
     measure-first h = ([], behind-first e, h)
 
-    pub measure-full : (j p k : ℕ) → j < q → Measured n j p → k ≡ length (enc_token bs (tok j)) → n - p < k → P.Full ≡ wrote_end bs n at tree
+    pub measure-full : (j p k : ℕ) → j < q → Measured n j p → k ≡ length (enc_token bs (tok j)) → n - p < k → Err P.Full ≡ wrote_end bs n at tree
     measure-full j p k h m f l = let x = behind-next m.0 j p h m.1 in full (omega (arith, m.2, x.3, ap length x.1))
 
     pub measure-next : (j p k : ℕ) → j < q → Measured n j p → k ≡ length (enc_token bs (tok j)) → k ≤ n - p → Measured n (j + 1) (p + k)
@@ -82,16 +82,16 @@ module _ (t bs : List ℕ) (i q at : ℕ) where
         let g : k ≡ length (tok_bytes bs x.0) = f ∙ ap length x.1 in
         (m.0 ++ (x.0 ∷ []), rw g x.2, omega (arith, m.2))
 
-    pub measure-last : (j p : ℕ) → q ≤ j → Measured n j p → P.At p ≡ wrote_end bs n at tree
+    pub measure-last : (j p : ℕ) → q ≤ j → Measured n j p → Ok p ≡ wrote_end bs n at tree
     measure-last j p h m =
         let x = behind-last m.0 j p h m.1 in
-        sym (wrote-end bs at q n tree e ∙ put-fits n at whole (omega (arith, m.2, x.1)) ∙ ap P.At (sym x.1))
+        sym (wrote-end bs at q n tree e ∙ put-fits n at whole (omega (arith, m.2, x.1)) ∙ ap Ok (sym x.1))
 
   -- ---- put, in the buffer d
   abbrev pub Filled : List ℕ → ℕ → ℕ → List ℕ → Type 0
   Filled d j p l = (xs : List Tok) × Behind xs j p × Laid (tok_bytes bs) d at xs l
 
-  module _ (d : List ℕ) (e : end_of tree ≡ E.At q) (r : at + length whole ≤ length d) where
+  module _ (d : List ℕ) (e : end_of tree ≡ Some q) (r : at + length whole ≤ length d) where
     pub fill-first : Filled d i at d
     fill-first = ([], behind-first e, laid-first (tok_bytes bs) d at)
 

@@ -1,4 +1,5 @@
 -- A value's bytes and its words, from its tokens one behind another.
+use Rattle.std.specs.Prelude.{Ok, Err, Some, None}
 use Prim.Native.Nat.{ℕ, ◌+◌, ◌*◌, ◌/◌}
 use mathlib.Core.Path.{◌≡◌, refl, sym, ap, ◌∙◌}
 use mathlib.Core.List.{List, [], ◌∷◌, ◌++◌, append_assoc, append-nil}
@@ -8,11 +9,10 @@ use lib.ListN.{length, length-append}
 use lib.Dec.{leb}
 use Rattle.token.specs.declared.Token.{Token}
 use Rattle.token.specs.Write.{put_end, put_all}
-use Rattle.value.specs.declared.End.TheVariants as E
 use Rattle.value.specs.Value.{int, bytes, Value, atom, list, named, Values, none, more}
 use Rattle.value.specs.Read.{Out, ok, bad, end_of}
 use Rattle.value.specs.Plain.{atom_in, plain_in, plains_in}
-use Rattle.tape.specs.declared.Took.TheVariants as T
+use Rattle.tape.specs.declared.TookError.TheVariants as T
 use Rattle.tape.specs.Write.{enc_atom, enc_value, enc_values, wrote_end, wrote_all}
 use Rattle.tape.specs.Words.{atom_words, mark_words, words, words_all, took_end, took_all}
 use Rattle.tape.specs.Steps.{enc_token, token_words, next_of, bytes_in, words_in}
@@ -121,35 +121,35 @@ words-in (ok v q) = value-words v
 words-in bad = refl
 
 -- ---- what the writer and the reader answer and leave, where a value ends at z
-pub no_end : {A : Type 0} {q : ℕ} → E.Broken ≡ E.At q → A
+pub no_end : {A : Type 0} {q : ℕ} → None ≡ Some q → A
 no_end {q = q} e = absurd (let z : ◌≡◌ {A = ℕ} 0 1 = cc in omega arith)
 
-same_end : {p q : ℕ} → E.At p ≡ E.At q → p ≡ q
+same_end : {p q : ℕ} → Some p ≡ Some q → p ≡ q
 same_end e = cc
 
-pub row_is : (tok : ℕ → Token) (d p z : ℕ) (o : Out Value) → Holds (Stands tok d p) o → end_of o ≡ E.At z → Row tok p (row_of o) z
+pub row_is : (tok : ℕ → Token) (d p z : ℕ) (o : Out Value) → Holds (Stands tok d p) o → end_of o ≡ Some z → Row tok p (row_of o) z
 unfolding row_of end_of
 row_is tok d p z (ok v q) h e = rw (same_end e) at h.0
 row_is tok d p z bad h e = no_end e
 
 module _ (bs : List ℕ) (at z : ℕ) where
-  pub wrote-end : (n : ℕ) (o : Out Value) → end_of o ≡ E.At z → wrote_end bs n at o ≡ put_end true n at (bytes_in bs o)
+  pub wrote-end : (n : ℕ) (o : Out Value) → end_of o ≡ Some z → wrote_end bs n at o ≡ put_end true n at (bytes_in bs o)
   unfolding wrote_end bytes_in end_of
   wrote-end n (ok v q) e = refl
   wrote-end n bad e = no_end e
 
-  pub wrote-all : (d : List ℕ) (o : Out Value) → end_of o ≡ E.At z → wrote_all bs d at o ≡ put_all true d at (bytes_in bs o)
+  pub wrote-all : (d : List ℕ) (o : Out Value) → end_of o ≡ Some z → wrote_all bs d at o ≡ put_all true d at (bytes_in bs o)
   unfolding wrote_all bytes_in end_of
   wrote-all d (ok v q) e = refl
   wrote-all d bad e = no_end e
 
 module _ (i z : ℕ) where
-  pub took-end : (n : ℕ) (o : Out Value) → end_of o ≡ E.At z → took_end n i o ≡ cond (leb (i * 3 + length (words_in o)) n) (T.At (i + length (words_in o) / 3) z) T.Full
+  pub took-end : (n : ℕ) (o : Out Value) → end_of o ≡ Some z → took_end n i o ≡ cond (leb (i * 3 + length (words_in o)) n) (Ok (record { node = i + length (words_in o) / 3; next = z })) (Err T.Full)
   unfolding took_end words_in end_of
   took-end n (ok v q) e = rw (same_end e)
   took-end n bad e = no_end e
 
-  pub took-all : (t : List ℕ) (o : Out Value) → end_of o ≡ E.At z → took_all t i o ≡ put_all true t (i * 3) (words_in o)
+  pub took-all : (t : List ℕ) (o : Out Value) → end_of o ≡ Some z → took_all t i o ≡ put_all true t (i * 3) (words_in o)
   unfolding took_all words_in end_of
   took-all t (ok v q) e = refl
   took-all t bad e = no_end e

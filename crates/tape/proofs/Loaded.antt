@@ -1,4 +1,5 @@
 -- The reader's loops: tokens counted, and tokens laid on the tape.
+use Rattle.std.specs.Prelude.{Some}
 use Prim.Native.Nat.{ℕ, ◌+◌, ◌*◌, ◌≤◌, ◌<◌}
 use mathlib.Core.Path.{◌≡◌, refl, sym, ap, ◌∙◌}
 use mathlib.Core.List.{List, [], ◌∷◌, ◌++◌}
@@ -8,7 +9,6 @@ use Rattle.token.specs.declared.Token.{Token}
 use Rattle.token.specs.Bytes.{over}
 use Rattle.token.specs.Token.{token_at}
 use Rattle.token.proofs.Writes.{all-fits}
-use Rattle.value.specs.declared.End.TheVariants as E
 use Rattle.value.specs.Value.{Value}
 use Rattle.value.specs.Read.{Out, end_of, value_at}
 use Rattle.value.proofs.Inside.{token-ends}
@@ -27,7 +27,7 @@ module _ (s : List ℕ) (at z : ℕ) where
   abbrev Before : List Tok → ℕ → Type 0
   Before xs p = Passed (token_at s) (row_of value) z xs p
 
-  before-first : end_of value ≡ E.At z → Before [] at
+  before-first : end_of value ≡ Some z → Before [] at
   before-first e = passed_first (token_at s) (row_of value) z at (row_is (token_at s) 16 at z value (value_row (token_at s) (length s) 16 at) e)
 
   -- one more, and there is room for it where there is room for the whole
@@ -49,7 +49,7 @@ module _ (s : List ℕ) (at z : ℕ) where
   abbrev pub Counted : ℕ → ℕ → Type 0
   Counted p m = (xs : List Tok) × Before xs p × (m ≡ length xs) × (m ≤ p)
 
-  pub count-first : end_of value ≡ E.At z → Counted at 0
+  pub count-first : end_of value ≡ Some z → Counted at 0
   count-first e = ([], before-first e, refl, omega arith)
 
   pub count-ahead : (p r m : ℕ) (t : Token) → p < z → Counted p m → t ≡ token_at s p → r ≡ next_of z t → p < r
@@ -68,7 +68,7 @@ module _ (s : List ℕ) (at z : ℕ) where
     abbrev pub Loaded : ℕ → ℕ → List ℕ → Type 0
     Loaded p j l = (xs : List Tok) × Before xs p × (j ≡ i + length xs) × Laid tok_words d (i * 3) xs l
 
-    pub load-first : end_of value ≡ E.At z → Loaded at i d
+    pub load-first : end_of value ≡ Some z → Loaded at i d
     load-first e = ([], before-first e, omega arith, laid-first tok_words d (i * 3))
 
     pub load-ahead : (p r j : ℕ) (l : List ℕ) (t : Token) → p < z → Loaded p j l → t ≡ token_at s p → r ≡ next_of z t → p < r
@@ -88,5 +88,5 @@ module _ (s : List ℕ) (at z : ℕ) where
             laid_next tok_words d (i * 3) (j * 3) c.0 x l m c.3 (omega (arith, c.2, words-length c.0)) (omega (arith, c.2, n.4, words-three x)) (g ∙ ap (over l (j * 3)) n.1),
           )
 
-      pub load-last : (p j : ℕ) (l : List ℕ) → end_of value ≡ E.At z → z ≤ p → Loaded p j l → l ≡ took_all d i value
+      pub load-last : (p j : ℕ) (l : List ℕ) → end_of value ≡ Some z → z ≤ p → Loaded p j l → l ≡ took_all d i value
       load-last p j l e h c = c.3.0 ∙ ap (over d (i * 3)) (before_last c.0 p h c.1) ∙ sym (took-all i z d value e ∙ all-fits d (i * 3) (words_in value) w)

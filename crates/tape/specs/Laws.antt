@@ -1,11 +1,9 @@
 -- "What our writer of tokens writes, our reader reads back as the same value."
-use Rattle.std.specs.Prelude.{ℕ, ◌+◌, ◌≤◌, ◌<◌, ◌^◌, ◌≡◌, List, ◌++◌, length, get_or}
-use Rattle.token.specs.declared.Put.TheVariants as P
+use Rattle.std.specs.Prelude.{ℕ, ◌+◌, ◌≤◌, ◌<◌, ◌^◌, ◌≡◌, List, ◌++◌, length, get_or, Ok}
 use Rattle.value.specs.Value.{Value}
 use Rattle.value.specs.Read.{Out, ok, bad, value_at}
 use Rattle.value.specs.Source.{tree_at}
 use Rattle.value.specs.Plain.{Plain, plain_in}
-use Rattle.tape.specs.declared.Took.TheVariants as T
 use Rattle.tape.specs.Write.{enc_value, Within, wrote_end, wrote_all}
 use Rattle.tape.specs.Words.{took_end, took_all}
 
@@ -25,13 +23,13 @@ Below b l = (i : ℕ) → get_or l i 0 < b
 
 -- where the writer answers a place, the bytes that it leaves read as the value on the tape and end there
 abbrev pub Written : Type 0
-Written = (t bs out : List ℕ) (i at z : ℕ) → Below (2 ^ 64) t → wrote_end bs (length out) at (tree_at t bs 16 i) ≡ P.At z
+Written = (t bs out : List ℕ) (i at z : ℕ) → Below (2 ^ 64) t → wrote_end bs (length out) at (tree_at t bs 16 i) ≡ Ok z
     → (x : Plain) × (q : ℕ) × Says bs (tree_at t bs 16 i) x q
     × Says (wrote_all bs out at (tree_at t bs 16 i)) (value_at (wrote_all bs out at (tree_at t bs 16 i)) 16 at) x z
 
 -- where the reader answers a node and a place, the tape that it leaves says the very value that stands in the bytes
 abbrev pub Laid : Type 0
-Laid = (s u : List ℕ) (p k j y : ℕ) → Below 256 s → took_end (length u) k (value_at s 16 p) ≡ T.At j y
+Laid = (s u : List ℕ) (p k j y : ℕ) → Below 256 s → took_end (length u) k (value_at s 16 p) ≡ Ok (record { node = j; next = y })
     → (x : Plain) × Says s (value_at s 16 p) x y × Says s (tree_at (took_all u k (value_at s 16 p)) s 16 k) x j
 
 -- no bytes that read as the same value are fewer than the writer's

@@ -1,10 +1,11 @@
 -- A value's nodes, and what a reader of whole values answers and leaves.
-use Rattle.std.specs.Prelude.{ℕ, ◌+◌, ◌*◌, ◌/◌, List, [], ◌∷◌, ◌++◌, true, cond, length, leb}
+use Rattle.std.specs.Prelude.{ℕ, ◌+◌, ◌*◌, ◌/◌, List, [], ◌∷◌, ◌++◌, true, cond, length, leb, Result, Ok, Err}
 use Rattle.token.specs.Write.{put_all}
 use Rattle.value.specs.Value.{Atom, int, bytes, Value, atom, list, named, Values, none, more}
 use Rattle.value.specs.Read.{Out, ok, bad}
 use Rattle.tape.specs.declared.Took.{Took}
-use Rattle.tape.specs.declared.Took.TheVariants as T
+use Rattle.tape.specs.declared.TookError.{TookError}
+use Rattle.tape.specs.declared.TookError.TheVariants as T
 
 unfoldable pub atom_words : Atom → List ℕ
 atom_words (int v) = 1 ∷ v ∷ 0 ∷ []
@@ -24,9 +25,9 @@ unfoldable mutual
   words_all (more v vs) = words v ++ words_all vs
 
 -- the node after the value's and the byte after it, where a tape of n words has room from the node i on
-unfoldable pub took_end : ℕ → ℕ → Out Value → Took
-took_end n i (ok v q) = cond (leb (i * 3 + length (words v)) n) (T.At (i + length (words v) / 3) q) T.Full
-took_end n i bad = T.Broken
+unfoldable pub took_end : ℕ → ℕ → Out Value → Result Took TookError
+took_end n i (ok v q) = cond (leb (i * 3 + length (words v)) n) (Ok (record { node = i + length (words v) / 3; next = q })) (Err T.Full)
+took_end n i bad = Err T.Broken
 
 -- and what the tape t holds then
 unfoldable pub took_all : List ℕ → ℕ → Out Value → List ℕ

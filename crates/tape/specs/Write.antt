@@ -1,7 +1,7 @@
 -- A value's bytes in the shortest form, and what a writer of whole values answers and leaves.
-use Rattle.std.specs.Prelude.{ℕ, zero, suc, ◌^◌, ◌<◌, List, [], ◌∷◌, ◌++◌, true, length}
-use Rattle.token.specs.declared.Put.{Put}
-use Rattle.token.specs.declared.Put.TheVariants as P
+use Rattle.std.specs.Prelude.{ℕ, zero, suc, ◌^◌, ◌<◌, List, [], ◌∷◌, ◌++◌, true, length, Result, Err}
+use Rattle.token.specs.declared.PutError.{PutError}
+use Rattle.token.specs.declared.PutError.TheVariants as P
 use Rattle.token.specs.Write.{enc_int, enc_bytes, max_bytes, put_end, put_all}
 use Rattle.value.specs.Value.{Value}
 use Rattle.value.specs.Read.{Out, ok, bad}
@@ -40,9 +40,9 @@ abbrev mutual
   AllWithin (more v vs) d = Within v d × AllWithin vs d
 
 -- what the writer answers for the value that a tape with the bytes bs holds, at at in a buffer of n bytes
-unfoldable pub wrote_end : List ℕ → ℕ → ℕ → Out Value → Put
+unfoldable pub wrote_end : List ℕ → ℕ → ℕ → Out Value → Result ℕ PutError
 wrote_end bs n at (ok v q) = put_end true n at (enc_value (plain_in bs v))
-wrote_end bs n at bad = P.Outside
+wrote_end bs n at bad = Err P.Outside
 
 -- and what the buffer d holds then
 unfoldable pub wrote_all : List ℕ → List ℕ → ℕ → Out Value → List ℕ

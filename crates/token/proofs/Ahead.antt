@@ -21,14 +21,6 @@ use Rattle.token.proofs.Laws.{lt-or-le, room, grows}
 use Rattle.token.proofs.Leads.{control-is}
 use Rattle.token.proofs.Tokens.{token-none}
 
--- the token, if it is one, ends past p and not past n
-abbrev pub Ahead : ℕ → ℕ → Token → Type 0
-Ahead p n (K.Int v q) = (p < q) × (q ≤ n)
-Ahead p n (K.Bytes st len q) = (p < q) × (q ≤ n)
-Ahead p n (K.Control c q) = (p < q) × (q ≤ n)
-Ahead p n K.End = Unit {0}
-Ahead p n K.Broken = Unit {0}
-
 abbrev pub Small : List ℕ → Type 0
 Small l = (i : ℕ) → get_or l i 0 < 256
 
@@ -103,16 +95,6 @@ token-held s p = ⊎_elim
     looser p p _ _ (token_at s p) (omega arith) e (λ b i. rw get_or-drop (b (p + i))) (list_held p (drop p s)))
     (λ (h : length s ≤ p). rw (token-none s p h) tt)
     (lt-or-le p (length s))
-
-pub token-ahead : (s : List ℕ) (p : ℕ) → Ahead p (length s) (token_at s p)
-token-ahead s p = go (token_at s p) (token-held s p)
-  where
-    go : (t : Token) → Held p (length s) (Small s) t → Ahead p (length s) t
-    go (K.Int v q) a = (a.0, a.1)
-    go (K.Bytes st len q) a = (a.2, a.3)
-    go (K.Control c q) a = (a.0, a.1)
-    go K.End a = tt
-    go K.Broken a = tt
 
 pub token-lies : (s : List ℕ) (p : ℕ) → ((i : ℕ) → get_or s i 0 < 256) → Lies p (token_at s p)
 token-lies s p b = go (token_at s p) (token-held s p)

@@ -1,16 +1,16 @@
 -- The writer's forms: which one a number or a length has, how long it is, and the stores that leave it.
 use Prim.Native.Nat.{ℕ, suc, ◌+◌, ◌/◌, ◌%◌, ◌^◌, ◌≤◌, ◌<◌}
-use mathlib.Core.Path.{◌≡◌, ◌∙◌}
+use mathlib.Core.Path.{◌≡◌}
 use mathlib.Core.List.{List, [], ◌∷◌}
 use native.Mathlib.Omega.{arith}
-use lib.ListN.{length, set, length-append}
+use lib.ListN.{length, length-append}
 use lib.Dec.{ltb}
 use mathlib.Core.Logic.{⊎_elim}
 use borrow.Author.Tests.{lt-ltb, le-ltb, ltb-true, ltb-false}
 use Rattle.token.specs.Bytes.{be_of, over}
 use Rattle.token.specs.Write.{size_of, enc_int, head_of, enc_bytes}
 use Rattle.token.proofs.Laws.{lt-or-le, room}
-use Rattle.token.proofs.Writes.{cond-all, be-length, over-sets, over-more, join}
+use Rattle.token.proofs.Writes.{cond-all, be-length, over-over}
 
 -- ---- an integer: tiny or short
 pub enc-tiny : (v : ℕ) → v < 64 → enc_int v ≡ v ∷ []
@@ -27,15 +27,11 @@ tiny-length v h = rw (enc-tiny v h)
 pub short-length : (v : ℕ) → 64 ≤ v → length (enc_int v) ≡ size_of v + 1
 short-length v h = rw (enc-short v h) (omega (arith, be-length (size_of v) v))
 
--- it takes a byte at least
-pub int-some : (v : ℕ) → 0 < length (enc_int v)
-int-some v = ⊎_elim (λ (h : v < 64). omega (arith, tiny-length v h)) (λ (h : 64 ≤ v). omega (arith, short-length v h)) (lt-or-le v 64)
+-- how long each form of an integer is
+pub ruleset int_lengths = (tiny-length, short-length)
 
-pub tiny-over : (d : List ℕ) (at v : ℕ) → v < 64 → at < length d → set d at v ≡ over d at (enc_int v)
-tiny-over d at v h k = rw (enc-tiny v h) (over-sets d (v ∷ []) at (omega arith))
-
-pub short-over : (d last : List ℕ) (at v n : ℕ) → 64 ≤ v → n ≡ size_of v → at < length d → last ≡ over (set d at (0x80 + n)) (at + 1) (be_of n v) → last ≡ over d at (enc_int v)
-short-over d last at v n h e k q = rw (enc-short v h, ← e) (q ∙ over-more d (be_of n v) at (0x80 + n) k)
+-- and which it is
+pub ruleset ints = (tiny-length, short-length, enc-tiny, enc-short)
 
 -- the size is from 1 to 8, enough for a number of 64 bits, and never more than is needed
 abbrev pub Sized : ℕ → ℕ → Type 0
@@ -92,14 +88,20 @@ head-some n = ⊎_elim
     (lt-or-le n 2048))
     (lt-or-le n 16)
 
+-- how many bytes stand before n bytes
+pub ruleset head_lengths = (len-one, len-two, len-four)
+
+-- and which
+pub ruleset heads = (head-one, head-two, head-four, len-one, len-two, len-four)
+
 -- ---- bytes behind what stands before them
 pub bytes-length : (bs : List ℕ) → length (enc_bytes bs) ≡ length (head_of (length bs)) + length bs
 unfolding enc_bytes
 bytes-length bs = length-append (head_of (length bs)) bs
 
-pub bytes-over : (d mid last bs : List ℕ) (at k : ℕ) → mid ≡ over d at (head_of (length bs)) → last ≡ over mid k bs → k ≡ at + length (head_of (length bs)) → k ≤ length d → last ≡ over d at (enc_bytes bs)
+pub head-over : (d bs : List ℕ) (at k : ℕ) → k ≡ at + length (head_of (length bs)) → k ≤ length d → over (over d at (head_of (length bs))) k bs ≡ over d at (enc_bytes bs)
 unfolding enc_bytes
-bytes-over d mid last bs at k p q e h = join d mid last (head_of (length bs)) bs at k p q e h
+head-over d bs at k e h = rw e (over-over d (head_of (length bs)) at (omega arith) bs)
 
--- how many bytes stand before n bytes
-pub ruleset head_lengths = (len-one, len-two, len-four)
+-- a head and the bytes behind it
+pub ruleset wholes = (bytes-length, head-over)

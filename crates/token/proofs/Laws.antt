@@ -6,11 +6,13 @@ use mathlib.Core.Bool.{Bool, true, false, ◌&&◌}
 use lib.ListN.{length, take, drop, get_or, length-drop}
 use lib.Seq.{take-suc, get_or-drop}
 use native.Mathlib.Numerals.{add-one}
-use lib.Dec.{ltb, lit<}
-use mathlib.Core.Logic.{◌⊎◌, inl, inr}
+use lib.Dec.{lit<}
+use mathlib.Core.Logic.{◌⊎◌}
 use native.Mathlib.Nat.{lt_of_lt_of_le, pow-le-pow_right, pow-suc, div-lt_iff_lt-mul, div-add-mod'}
 use native.Mathlib.Omega.{arith}
-use borrow.Author.Tests.{le-leb, lt-leb, ltb-true, ltb-false}
+use borrow.Author.Tests.{le-leb, lt-leb}
+use Rattle.std.proofs.Math.Bool.{and-false}
+use Rattle.std.proofs.lemmas.Bool.{cases_lt}
 use Rattle.token.specs.Bytes.{within, be_val, be_of}
 
 pub inside : (lo hi b : ℕ) → lo ≤ b → b ≤ hi → within lo hi b ≡ true
@@ -22,8 +24,7 @@ unfolding within
 below lo hi b h = simp (lt-leb lo b h)
 
 pub and-f : (x : Bool) → (x && false) ≡ false
-and-f true = refl
-and-f false = refl
+and-f x = and-false x
 
 pub above : (lo hi b : ℕ) → hi < b → within lo hi b ≡ false
 unfolding within
@@ -31,11 +32,7 @@ above lo hi b h = simp (lt-leb b hi h, and-f)
 
 -- which of two numbers is less
 pub lt-or-le : (x y : ℕ) → (x < y) ⊎ (y ≤ x)
-lt-or-le x y = go (ltb x y) refl
-  where
-    go : (t : Bool) → ltb x y ≡ t → (x < y) ⊎ (y ≤ x)
-    go true e = inl (ltb-true x y e)
-    go false e = inr (ltb-false x y e)
+lt-or-le x y = cases_lt x y
 
 -- one more byte
 pub be_val-snoc : (a : ℕ) (l : List ℕ) (b : ℕ) → be_val a (l ++ (b ∷ [])) ≡ be_val a l * 256 + b

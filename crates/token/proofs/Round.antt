@@ -10,13 +10,14 @@ use lib.ListN.{length, take, drop, length-append}
 use lib.Seq.{take_at, drop-drop, drop-append_seam}
 use lib.Dec.{leb, lit<, lit≤}
 use borrow.Author.Tests.{leb-true}
+use Rattle.std.proofs.lemmas.Bool.{false_from_ne_true}
 use Rattle.token.specs.declared.Lead.TheVariants as L
 use Rattle.token.specs.declared.Token.TheVariants as K
 use Rattle.token.specs.Bytes.{within, be_of}
 use Rattle.token.specs.Token.{is_control, lead_of, atom_of, medium_of, long_of, form_of, token_of}
 use Rattle.token.specs.Write.{size_of, enc_int, head_of, enc_bytes}
 use Rattle.token.proofs.Laws.{lt-or-le, be-val}
-use Rattle.token.proofs.Leads.{tiny, short_int, short_bytes, medium_bytes, long_bytes, control-low, control-high}
+use Rattle.token.proofs.Leads.{tiny, short_int, short_bytes, medium_bytes, long_bytes, control-low, control-high, control-is}
 use Rattle.token.proofs.Tokens.{atom-int, atom-bytes}
 use Rattle.token.proofs.Writes.{be-length}
 use Rattle.token.proofs.Forms.{enc-tiny, enc-short, sized, head-one, head-two, head-four}
@@ -124,6 +125,12 @@ range-control b (inr h) = control-high b h.0 h.1
 
 pub lead-control : (b : ℕ) → is_control b ≡ true → lead_of b ≡ L.Control
 lead-control b h = range-control b (control-range b h)
+
+pub not-control : (b : ℕ) → (lead_of b ≡ L.Control → ⊥) → is_control b ≡ false
+not-control b h = false_from_ne_true (is_control b) (λ e. h (lead-control b e))
+
+-- which codes are control tokens
+pub ruleset marks = (control-is, lead-control)
 
 pub read-control : (b p : ℕ) (r : List ℕ) → is_control b ≡ true → token_of p (b ∷ r) ≡ K.Control b (p + 1)
 read-control b p r h = is_control_lem p b r (lead-control b h)

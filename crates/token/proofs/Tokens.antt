@@ -8,6 +8,7 @@ use native.Mathlib.Numerals.{add-one}
 use lib.ListN.{length, take, drop, get_or, length-drop, drop_of_length-le}
 use lib.Seq.{drop-cons}
 use borrow.Author.Tests.{le-leb, lt-leb}
+use Rattle.token.specs.declared.Lead.TheVariants as L
 use Rattle.token.specs.declared.Token.TheVariants as K
 use Rattle.token.specs.Bytes.{be_val}
 use Rattle.token.specs.Token.{atom_of, medium_of, long_of, form_of, lead_of, token_of, token_at}
@@ -33,6 +34,9 @@ atom-none n p l h = simp (below 1 8 n h)
 pub atom-large : (n p : ℕ) (l : List ℕ) → 8 < n → atom_of false n p l ≡ K.Broken
 unfolding atom_of
 atom-large n p l h = simp (above 1 8 n h)
+
+-- every atom
+pub ruleset atoms = (atom-bytes, atom-int, atom-short, atom-none, atom-large, length-drop)
 
 pub medium-at : (k : Bool) (h p : ℕ) (s : List ℕ) → p < length s → medium_of k h p (drop p s) ≡ atom_of k (h * 256 + get_or s p 0) (p + 1) (drop (p + 1) s)
 unfolding medium_of
@@ -70,3 +74,46 @@ token-at s i h = rw (drop-cons s i 0 h, add-one i)
 pub token-none : (s : List ℕ) (i : ℕ) → length s ≤ i → token_at s i ≡ K.End
 unfolding token_of
 token-none s i h = rw (drop_of_length-le s h)
+
+-- the token by what its first byte says
+module _ (s : List ℕ) (i : ℕ) where
+  pub tiny-at : i < length s → lead_of (get_or s i 0) ≡ L.Tiny → token_at s i ≡ K.Int (get_or s i 0) (i + 1)
+  unfolding form_of
+  tiny-at h e = rw (token-at s i h, e)
+
+  pub short-at : (k : Bool) (n : ℕ) → i < length s → lead_of (get_or s i 0) ≡ L.Short k n → token_at s i ≡ atom_of k n (i + 1) (drop (i + 1) s)
+  unfolding form_of
+  short-at k n h e = rw (token-at s i h, e)
+
+  pub medium-cut : (k : Bool) (g : ℕ) → i < length s → length s ≤ i + 1 → lead_of (get_or s i 0) ≡ L.Medium k g → token_at s i ≡ K.Broken
+  unfolding form_of
+  medium-cut k g h q e = rw (token-at s i h, e) (medium-none k g (i + 1) s q)
+
+  pub medium-whole : (k : Bool) (g : ℕ) → i + 1 < length s → lead_of (get_or s i 0) ≡ L.Medium k g
+      → token_at s i ≡ atom_of k (g * 256 + get_or s (i + 1) 0) (i + 1 + 1) (drop (i + 1 + 1) s)
+  unfolding form_of
+  medium-whole k g h e = rw (token-at s i (omega arith), e) (medium-at k g (i + 1) s h)
+
+  pub long-cut : (k : Bool) → i < length s → length s - (i + 1) < 3 → lead_of (get_or s i 0) ≡ L.Long k → token_at s i ≡ K.Broken
+  unfolding form_of
+  long-cut k h q e = rw (token-at s i h, e) (long-few k (i + 1) s q)
+
+  pub long-whole : (k : Bool) → i + 1 + 2 < length s → lead_of (get_or s i 0) ≡ L.Long k
+      → token_at s i ≡ atom_of k (get_or s (i + 1) 0 * 65536 + get_or s (i + 1 + 1) 0 * 256 + get_or s (i + 1 + 2) 0) (i + 1 + 3) (drop (i + 1 + 3) s)
+  unfolding form_of
+  long-whole k h e = rw (token-at s i (omega arith), e) (long-at k (i + 1) s h)
+
+  pub control-at : i < length s → lead_of (get_or s i 0) ≡ L.Control → token_at s i ≡ K.Control (get_or s i 0) (i + 1)
+  unfolding form_of
+  control-at h e = rw (token-at s i h, e)
+
+  pub empty-at : i < length s → lead_of (get_or s i 0) ≡ L.Empty → token_at s i ≡ token_at s (i + 1)
+  unfolding form_of
+  empty-at h e = rw (token-at s i h, e)
+
+  pub broken-at : i < length s → lead_of (get_or s i 0) ≡ L.Broken → token_at s i ≡ K.Broken
+  unfolding form_of
+  broken-at h e = rw (token-at s i h, e)
+
+-- every token
+pub ruleset tokens = (token-none, tiny-at, short-at, medium-whole, long-whole, control-at, empty-at, broken-at)

@@ -1,7 +1,7 @@
 -- "The writer uses the shortest form", and "outside these limits, or short of room, the writer refuses and writes nothing".
-use Rattle.std.specs.Prelude.{ℕ, ◌+◌, ◌/◌, ◌%◌, List, [], ◌∷◌, ◌++◌, Bool, true, false, ◌&&◌, cond, length, ltb, leb}
-use Rattle.token.specs.declared.Put.{Put}
-use Rattle.token.specs.declared.Put.TheVariants as P
+use Rattle.std.specs.Prelude.{ℕ, ◌+◌, ◌/◌, ◌%◌, List, [], ◌∷◌, ◌++◌, Bool, true, false, ◌&&◌, cond, length, ltb, leb, Result, Ok, Err}
+use Rattle.token.specs.declared.PutError.{PutError}
+use Rattle.token.specs.declared.PutError.TheVariants as P
 use Rattle.token.specs.Bytes.{be_of, over}
 
 -- how many bytes v takes: the least n from 1 on with v below 256 to the n
@@ -35,9 +35,9 @@ abbrev pub max_bytes : ℕ
 max_bytes = 16777216
 
 -- what a writer answers for bs at at in a buffer of n bytes, where ok says that the limits are kept
-unfoldable pub put_end : Bool → ℕ → ℕ → List ℕ → Put
-put_end true n at bs = cond (leb (at + length bs) n) (P.At (at + length bs)) P.Full
-put_end false n at bs = P.Outside
+unfoldable pub put_end : Bool → ℕ → ℕ → List ℕ → Result ℕ PutError
+put_end true n at bs = cond (leb (at + length bs) n) (Ok (at + length bs)) (Err P.Full)
+put_end false n at bs = Err P.Outside
 
 -- and what the buffer d holds then
 unfoldable pub put_all : Bool → List ℕ → ℕ → List ℕ → List ℕ

@@ -1,7 +1,8 @@
 // TCG tokens: one read at a place of a slice, and atoms and control tokens written at a place of a buffer.
 #![tactic(auto)]
 
-ghost use Rattle.std.specs.Prelude.{◌≡◌, true, false, [], ◌∷◌, ◌+◌, ◌*◌, ◌<◌, ◌≤◌, length, drop, take, ltb};
+ghost use Rattle.std.specs.Prelude.{◌≡◌, true, false, [], ◌∷◌, ◌+◌, ◌*◌, ◌<◌, ◌≤◌, length, drop, take, ltb, MatchResult};
+ghost use Rattle.token.specs.declared.PutError.TheVariants.{Full};
 ghost use Rattle.token.specs.Bytes.{be_val, number_at, be_of, over};
 ghost use Rattle.token.specs.Token.{is_control, lead_of, atom_of, token_at};
 ghost use Rattle.token.specs.Write.{size_of, enc_int, head_of, enc_bytes, max_bytes, put_end, put_all};
@@ -47,10 +48,9 @@ pub enum Token {
     Broken,
 }
 
-// Where what was put ends; or nothing was put, for want of room or because it is outside the limits.
-#[derive(Clone, Copy)]
-pub enum Put {
-    At(usize),
+// Why nothing was put: there is no room, or it is outside the limits. A writer answers where what was put ends, or this.
+#[derive(Clone, Copy, PartialEq, Eq)]
+pub enum PutError {
     Full,
     Outside,
 }
@@ -66,237 +66,174 @@ pub fn classify(b: u8) -> Lead
         0xa0..=0xaf => Lead::Short(true, b - 0xa0),
         0xc0..=0xc7 => Lead::Medium(false, b - 0xc0),
         0xd0..=0xd7 => Lead::Medium(true, b - 0xd0),
-        0xe0..=0xe0 => Lead::Long(false),
-        0xe2..=0xe2 => Lead::Long(true),
-        0xf0..=0xf3 => Lead::Control,
-        0xf8..=0xfc => Lead::Control,
-        0xff..=0xff => Lead::Empty,
+        0xe0 => Lead::Long(false),
+        0xe2 => Lead::Long(true),
+        0xf0..=0xf3 | 0xf8..=0xfc => Lead::Control,
+        0xff => Lead::Empty,
         _ => Lead::Broken,
     }
 }
 
-fn wide(x: u8) -> usize
-    ensures { (result ≡ x) × (result < 256) }
+// The number that the bytes make, the first the highest.
+fn number(bytes: &[u8]) -> u64
+    requires { length bytes.now ≤ 8 }
+    ensures { result ≡ be_val 0 bytes.now }
 {
-    x as usize
-}
-
-fn wide64(x: u8) -> u64
-    ensures { (result ≡ x) × (result < 256) }
-{
-    x as u64
-}
-
-// The number that n bytes from at make, the first the highest.
-fn number(s: &[u8], at: usize, n: usize) -> u64
-    requires { (n ≤ 8) × (at + n ≤ length s.now) }
-    ensures { result ≡ be_val 0 (take n (drop at s.now)) }
-{
-    let mut v: u64 = 0;
-    let mut i: usize = 0;
-    while i < n {
-        v = v * 256 + wide64(s[at + i]);
-        i += 1;
+    let mut v = 0;
+    for b in bytes {
+        v = v * 256 + u64::from(*b);
     }
     v
 }
 
 // The number that n bytes from at make, and 0 where they are not there or too many for 64 bits.
+#[tactic(auto, unfolding(crate::specs::Bytes::number_at))]
 pub fn number_at(s: &[u8], at: usize, n: usize) -> u64
     ensures { result ≡ number_at s.now at n }
 {
-    if 8 < n {
+    if 8 < n || s.len() < at || s.len() - at < n {
         return 0;
     }
-    if s.len() < at {
-        return 0;
-    }
-    if s.len() - at < n {
-        return 0;
-    }
-    number(s, at, n)
+    number(&s[at..at + n])
 }
 
 // The atom whose n bytes start at p.
+#[tactic(auto, using(crate::proofs::Tokens::atoms))]
 fn atom(s: &[u8], p: usize, bytes: bool, n: usize) -> Token
     requires { p ≤ length s.now }
     ensures { result ≡ atom_of bytes n p (drop p s.now) }
 {
+    if s.len() - p < n {
+        return Token::Broken;
+    }
+    let next = p + n;
     if bytes {
-        if n <= s.len() - p {
-            return Token::Bytes {
-                start: p,
-                len: n,
-                next: p + n,
-            };
-        }
-        return Token::Broken;
-    }
-    if n == 0 {
-        return Token::Broken;
-    }
-    if 8 < n {
-        return Token::Broken;
-    }
-    if n <= s.len() - p {
-        let v = number(s, p, n);
-        return Token::Int {
-            value: v,
-            next: p + n,
+        return Token::Bytes {
+            start: p,
+            len: n,
+            next,
         };
     }
-    Token::Broken
+    if n == 0 || 8 < n {
+        return Token::Broken;
+    }
+    Token::Int {
+        value: number(&s[p..next]),
+        next,
+    }
 }
 
 // The token at at.
+#[tactic(auto, using(crate::proofs::Tokens::tokens))]
 pub fn read(s: &[u8], at: usize) -> Token
     ensures { result ≡ token_at s.now at }
 {
-    let mut i = at;
-    while i < s.len() {
+    for i in at..s.len() {
         let b = s[i];
         let p = i + 1;
-        let k = classify(b);
-        match k {
+        match classify(b) {
             Lead::Tiny => {
-                let v = wide64(b);
-                return Token::Int { value: v, next: p };
+                return Token::Int {
+                    value: u64::from(b),
+                    next: p,
+                };
             }
-            Lead::Short(bytes, n) => {
-                let m = wide(n);
-                return atom(s, p, bytes, m);
-            }
+            Lead::Short(bytes, n) => return atom(s, p, bytes, usize::from(n)),
             Lead::Medium(bytes, h) => {
-                if s.len() - p < 1 {
+                let Some(x) = s.get(p) else {
                     return Token::Broken;
-                }
-                let m = wide(h);
-                let x = wide(s[p]);
-                return atom(s, p + 1, bytes, m * 256 + x);
+                };
+                return atom(s, p + 1, bytes, usize::from(h) * 256 + usize::from(*x));
             }
             Lead::Long(bytes) => {
-                if s.len() - p < 3 {
+                let [x, y, z, ..] = &s[p..] else {
                     return Token::Broken;
-                }
-                let x = wide(s[p]);
-                let y = wide(s[p + 1]);
-                let z = wide(s[p + 2]);
-                return atom(s, p + 3, bytes, x * 65536 + y * 256 + z);
+                };
+                let n = usize::from(*x) * 65536 + usize::from(*y) * 256 + usize::from(*z);
+                return atom(s, p + 3, bytes, n);
             }
-            Lead::Control => {
-                return Token::Control { code: b, next: p };
-            }
-            Lead::Empty => {
-                i = p;
-            }
-            Lead::Broken => {
-                return Token::Broken;
-            }
+            Lead::Control => return Token::Control { code: b, next: p },
+            Lead::Empty => {}
+            Lead::Broken => return Token::Broken,
         }
     }
     Token::End
 }
 
 // How many bytes v takes.
+#[tactic(auto, unfolding(crate::specs::Write::size_of))]
 fn size(v: u64) -> usize
     ensures { (result ≡ size_of v) × (1 ≤ result) × (result ≤ 8) }
 {
-    if v < 0x100 {
-        return 1;
+    match v {
+        0..=0xff => 1,
+        0x100..=0xffff => 2,
+        0x10000..=0xffffff => 3,
+        0x1000000..=0xffffffff => 4,
+        0x100000000..=0xffffffffff => 5,
+        0x10000000000..=0xffffffffffff => 6,
+        0x1000000000000..=0xffffffffffffff => 7,
+        _ => 8,
     }
-    if v < 0x10000 {
-        return 2;
-    }
-    if v < 0x1000000 {
-        return 3;
-    }
-    if v < 0x100000000 {
-        return 4;
-    }
-    if v < 0x10000000000 {
-        return 5;
-    }
-    if v < 0x1000000000000 {
-        return 6;
-    }
-    if v < 0x100000000000000 {
-        return 7;
-    }
-    8
 }
 
 // How many bytes put_int writes.
+#[tactic(auto, using(crate::proofs::Forms::int_lengths))]
 pub fn int_len(v: u64) -> usize
     ensures { (result ≡ length (enc_int v)) × (1 ≤ result) × (result ≤ 9) }
 {
-    if v < 0x40 {
-        return 1;
-    }
-    size(v) + 1
+    if v < 0x40 { 1 } else { size(v) + 1 }
 }
 
-// The lowest n bytes of v, the highest first, from p on.
-fn digits(buf: &mut [u8], p: usize, n: usize, v: u64)
-    requires { p + n ≤ length buf.old }
-    ensures { buf.new ≡ over buf.old p (be_of n v) }
+// The lowest bytes of v, the highest first, as many as the buffer has.
+fn digits(buf: &mut [u8], mut v: u64)
+    ensures { buf.new ≡ be_of (length buf.old) v }
 {
-    let mut w = v;
-    let mut j = n;
-    while 0 < j {
-        j -= 1;
-        buf[p + j] = (w % 256) as u8;
-        w = w / 256;
+    for j in (0..buf.len()).rev() {
+        buf[j] = (v % 256) as u8;
+        v /= 256;
     }
 }
 
-fn copy(buf: &mut [u8], p: usize, src: &[u8])
-    requires { p + length src.now ≤ length buf.old }
-    ensures { buf.new ≡ over buf.old p src.now }
+// Where n bytes from at end, if there is room for them.
+fn room(buf: &[u8], at: usize, n: usize) -> Result<usize, PutError>
+    ensures { MatchResult result
+        (λ end. (end ≡ at + n) × (at + n ≤ length buf.now))
+        (λ e. (e ≡ Full) × (length buf.now < at + n)) }
 {
-    let mut i = 0;
-    while i < src.len() {
-        buf[p + i] = src[i];
-        i += 1;
+    if buf.len() < at || buf.len() - at < n {
+        return Err(PutError::Full);
     }
+    Ok(at + n)
 }
 
 // The lowest n bytes of v, the highest first, at at.
-pub fn put_number(buf: &mut [u8], at: usize, n: usize, v: u64) -> Put
+#[tactic(auto, using(crate::proofs::Writes::writes))]
+pub fn put_number(buf: &mut [u8], at: usize, n: usize, v: u64) -> Result<usize, PutError>
     ensures answer { result ≡ put_end true (length buf.old) at (be_of n v) }
     ensures buffer { buf.new ≡ put_all true buf.old at (be_of n v) }
 {
-    if at <= buf.len() {
-        if n <= buf.len() - at {
-            digits(buf, at, n, v);
-            return Put::At(at + n);
-        }
-        return Put::Full;
-    }
-    Put::Full
+    let end = room(buf, at, n)?;
+    digits(&mut buf[at..end], v);
+    Ok(end)
 }
 
 // An integer in its shortest form, at at.
-pub fn put_int(buf: &mut [u8], at: usize, v: u64) -> Put
+#[tactic(auto, using(crate::proofs::Writes::writes, crate::proofs::Forms::ints))]
+pub fn put_int(buf: &mut [u8], at: usize, v: u64) -> Result<usize, PutError>
     ensures answer { result ≡ put_end true (length buf.old) at (enc_int v) }
     ensures buffer { buf.new ≡ put_all true buf.old at (enc_int v) }
 {
     if v < 64 {
-        if at < buf.len() {
-            buf[at] = v as u8;
-            return Put::At(at + 1);
-        }
-        return Put::Full;
+        let end = room(buf, at, 1)?;
+        buf[at] = v as u8;
+        return Ok(end);
     }
     let n = size(v);
-    if at < buf.len() {
-        if n < buf.len() - at {
-            buf[at] = 0x80 + n as u8;
-            digits(buf, at + 1, n, v);
-            return Put::At(at + 1 + n);
-        }
-        return Put::Full;
-    }
-    Put::Full
+    let end = room(buf, at, 1 + n)?;
+    buf[at] = 0x80 + n as u8;
+    digits(&mut buf[at + 1..end], v);
+    Ok(end)
 }
 
 // How many bytes stand before n bytes.
@@ -305,73 +242,63 @@ pub fn head_len(n: usize) -> usize
     ensures { (result ≡ length (head_of n)) × (1 ≤ result) × (result ≤ 4) }
 {
     if n < 16 {
-        return 1;
+        1
+    } else if n < 2048 {
+        2
+    } else {
+        4
     }
-    if n < 2048 {
-        return 2;
-    }
-    4
 }
 
 // What stands before n bytes.
+#[tactic(auto, using(crate::proofs::Writes::writes, crate::proofs::Forms::heads))]
 fn head(buf: &mut [u8], at: usize, n: usize)
     requires { (n < max_bytes) × (at + length (head_of n) ≤ length buf.old) }
     ensures { buf.new ≡ over buf.old at (head_of n) }
 {
     if n < 0x10 {
         buf[at] = 0xa0 + n as u8;
-        return;
+    } else if n < 0x800 {
+        buf[at..at + 2].copy_from_slice(&[0xd0 + (n / 256) as u8, (n % 256) as u8]);
+    } else {
+        buf[at..at + 4].copy_from_slice(&[
+            0xe2,
+            (n / 65536) as u8,
+            (n / 256 % 256) as u8,
+            (n % 256) as u8,
+        ]);
     }
-    if n < 0x800 {
-        buf[at] = 0xd0 + (n / 256) as u8;
-        buf[at + 1] = (n % 256) as u8;
-        return;
-    }
-    buf[at] = 0xe2;
-    buf[at + 1] = (n / 65536) as u8;
-    buf[at + 2] = (n / 256 % 256) as u8;
-    buf[at + 3] = (n % 256) as u8;
 }
 
 // Bytes behind their shortest head, at at; more than a long atom holds are outside the limits.
-pub fn put_bytes(buf: &mut [u8], at: usize, src: &[u8]) -> Put
+#[tactic(auto, using(crate::proofs::Writes::writes, crate::proofs::Forms::wholes))]
+pub fn put_bytes(buf: &mut [u8], at: usize, src: &[u8]) -> Result<usize, PutError>
     ensures answer { result ≡ put_end (ltb (length src.now) max_bytes) (length buf.old) at (enc_bytes src.now) }
     ensures buffer { buf.new ≡ put_all (ltb (length src.now) max_bytes) buf.old at (enc_bytes src.now) }
 {
     let n = src.len();
-    if n < 16777216 {
-        let h = head_len(n);
-        if at < buf.len() {
-            if h + n <= buf.len() - at {
-                head(buf, at, n);
-                copy(buf, at + h, src);
-                return Put::At(at + h + n);
-            }
-            return Put::Full;
-        }
-        return Put::Full;
+    if 16777216 <= n {
+        return Err(PutError::Outside);
     }
-    Put::Outside
+    let h = head_len(n);
+    let end = room(buf, at, h + n)?;
+    head(buf, at, n);
+    buf[at + h..end].copy_from_slice(src);
+    Ok(end)
 }
 
 // A control token, at at; any other byte is outside the limits.
-pub fn put_control(buf: &mut [u8], at: usize, code: u8) -> Put
+#[tactic(auto, using(crate::proofs::Writes::writes, crate::proofs::Round::marks))]
+pub fn put_control(buf: &mut [u8], at: usize, code: u8) -> Result<usize, PutError>
     ensures answer { result ≡ put_end (is_control code) (length buf.old) at (code ∷ []) }
     ensures buffer { buf.new ≡ put_all (is_control code) buf.old at (code ∷ []) }
 {
-    let k = classify(code);
-    match k {
-        Lead::Control => {
-            if at < buf.len() {
-                buf[at] = code;
-                return Put::At(at + 1);
-            }
-            return Put::Full;
-        }
-        _ => {
-            return Put::Outside;
-        }
-    }
+    let Lead::Control = classify(code) else {
+        return Err(PutError::Outside);
+    };
+    let next = room(buf, at, 1)?;
+    buf[at] = code;
+    Ok(next)
 }
 
 // What is written is read back as the same token, whatever stands around it.

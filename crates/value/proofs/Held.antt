@@ -82,6 +82,3 @@ nothing = record {
 module _ (tok : ℕ → Token) (N : ℕ) (ta : (p : ℕ) → Has Any p N (tok p)) where
   pub value-ends : (n d p : ℕ) → Ends Any p N (value_by tok n d p)
   value-ends = value-holds Any Any Any nothing tok N ta
-
-  pub values-end : (n d p : ℕ) → Ends Any p N (values_by tok (value_by tok n d) n p)
-  values-end n d p = values-hold Any Any Any nothing tok N ta (value_by tok n d) (value-ends n d) n p

@@ -5,18 +5,14 @@ use mathlib.Core.List.{List}
 use native.Mathlib.Omega.{arith}
 use lib.ListN.{length}
 use Rattle.token.specs.Token.{token_at}
-use Rattle.value.specs.declared.End.TheVariants as E
-use Rattle.value.specs.Value.{Atom, int, bytes, Value, atom, list, named, Values, none, more}
+use Rattle.std.specs.Prelude.{Some, None}
+use Rattle.value.specs.Value.{Value, atom, list, named, Values, none, more}
 use Rattle.value.specs.Read.{Out, ok, bad, then, end_of, mark_of, end_or, value_at, values_at}
 use Rattle.value.specs.Laws.{AtomLies, Lies, AllLie, EndsBy}
 use Rattle.value.proofs.Outs.{Ends, Any, Has, has-any}
-use Rattle.value.proofs.Tokens.{token-held}
-use Rattle.value.proofs.Held.{Claim, value-holds, values-hold, value-ends}
+use Rattle.value.proofs.Tokens.{atom-wider, token-held}
+use Rattle.value.proofs.Held.{Claim, value-holds, value-ends}
 use Rattle.value.proofs.Values as By
-
-atom-wider : {p p' q q' : ℕ} (a : Atom) → p ≤ p' → q' ≤ q → AtomLies p' q' a → AtomLies p q a
-atom-wider (int v) h k x = tt
-atom-wider (bytes b n) h k x = (omega arith, omega arith)
 
 mutual
   value-wider : {p p' q q' : ℕ} (v : Value) → p ≤ p' → q' ≤ q → Lies p' q' v → Lies p q v
@@ -52,11 +48,6 @@ module _ (s : List ℕ) (d : ℕ) where
       go (ok v q) h = h
       go bad h = h
 
-  pub values-inside : (p : ℕ) → Ends AllLie p (length s) (values_at s d p)
-  values-inside p =
-      values-hold AtomLies Lies AllLie places (token_at s) (length s) (token-held s) (value_at s d)
-      (value-holds AtomLies Lies AllLie places (token_at s) (length s) (token-held s) (length s) d) (length s) p
-
   ends : (p : ℕ) → Ends Any p (length s) (value_at s d p)
   ends = value-ends (token_at s) (length s) (token-ends s) (length s) d
 
@@ -64,11 +55,11 @@ module _ (s : List ℕ) (d : ℕ) where
   values-step = By.values-step (token_at s) (length s) (token-ends s) (value_at s d) ends
 
   -- the three cases of it
-  pub values-shut : (p q : ℕ) → end_of (mark_of 0xf1 (token_at s p)) ≡ E.At q → values_at s d p ≡ ok none q
+  pub values-shut : (p q : ℕ) → end_of (mark_of 0xf1 (token_at s p)) ≡ Some q → values_at s d p ≡ ok none q
   values-shut = By.values-shut (token_at s) (length s) (token-ends s) (value_at s d) ends
 
-  pub values-broken : (p : ℕ) → end_of (mark_of 0xf1 (token_at s p)) ≡ E.Broken → end_of (value_at s d p) ≡ E.Broken → values_at s d p ≡ bad
+  pub values-broken : (p : ℕ) → end_of (mark_of 0xf1 (token_at s p)) ≡ None → end_of (value_at s d p) ≡ None → values_at s d p ≡ bad
   values-broken = By.values-broken (token_at s) (length s) (token-ends s) (value_at s d) ends
 
-  pub values-more : (p q : ℕ) (v : Value) → end_of (mark_of 0xf1 (token_at s p)) ≡ E.Broken → value_at s d p ≡ ok v q → values_at s d p ≡ then (values_at s d q) (λ vs r. ok (more v vs) r)
+  pub values-more : (p q : ℕ) (v : Value) → end_of (mark_of 0xf1 (token_at s p)) ≡ None → value_at s d p ≡ ok v q → values_at s d p ≡ then (values_at s d q) (λ vs r. ok (more v vs) r)
   values-more = By.values-more (token_at s) (length s) (token-ends s) (value_at s d) ends

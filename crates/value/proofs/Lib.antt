@@ -3,7 +3,6 @@ pub mod Tokens
 pub mod Nodes
 pub mod Held
 pub mod Values
-pub mod Places
 pub mod Sources
 pub mod Inside
 pub mod Moved

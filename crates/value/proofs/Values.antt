@@ -6,13 +6,20 @@ use native.Mathlib.Numerals.{sub-one}
 use borrow.Author.Tests.{eq-eqb, ne_eqb}
 use Rattle.token.specs.declared.Token.{Token}
 use Rattle.token.specs.declared.Token.TheVariants as K
-use Rattle.value.specs.declared.End.{End}
-use Rattle.value.specs.declared.End.TheVariants as E
-use Rattle.value.specs.Value.{int, bytes, Value, atom, list, named, Values, none, more}
+use Rattle.std.specs.Prelude.{Option, Some, None}
+use Rattle.value.specs.Value.{Value, list, named, Values, none, more}
 use Rattle.value.specs.Read.{Out, ok, bad, then, end_of, mark_of, atom_is, end_or, values_by, list_by, named_by, nest_by, value_of, value_by, opened_by}
 use Rattle.value.proofs.Outs.{Ends, Any, Has, mark-ends, then-agree, then-past, then-bad, then_at, then_is, then-made, end_is, end-bad, or-past, or_at, or-on}
 
 -- ---- a value, by the token that opens it
+plain : (nest : ℕ → ℕ → Out Value) (k : Token) → ((c q : ℕ) → k ≡ K.Control c q → ⊥) → end_of (value_of nest k) ≡ end_of (atom_is k)
+unfolding value_of atom_is end_of
+plain nest (K.Int v q) h = refl
+plain nest (K.Bytes b m q) h = refl
+plain nest (K.Control c q) h = absurd (h c q refl)
+plain nest K.End h = refl
+plain nest K.Broken h = refl
+
 module _ (tok : ℕ → Token) (n : ℕ) where
   opens : (d p : ℕ) → value_by tok n d p ≡ opened_by tok n d (tok p)
   unfolding value_by opened_by
@@ -20,28 +27,14 @@ module _ (tok : ℕ → Token) (n : ℕ) where
   opens (suc d) p = refl
 
   -- the value at p ends where that ends which the token there opens
-  pub value-by : (d p : ℕ) {t : Token} {e z : End} → t ≡ tok p → e ≡ end_of (opened_by tok n d t) → e ≡ z → end_of (value_by tok n d p) ≡ z
+  pub value-by : (d p : ℕ) {t : Token} {e z : Option ℕ} → t ≡ tok p → e ≡ end_of (opened_by tok n d t) → e ≡ z → end_of (value_by tok n d p) ≡ z
   value-by d p h k i = ap end_of (opens d p) ∙ ap (λ (x : Token). end_of (opened_by tok n d x)) (sym h) ∙ sym k ∙ i
 
-  pub opened-int : (d v q : ℕ) → opened_by tok n d (K.Int v q) ≡ ok (atom (int v)) q
-  unfolding opened_by value_of
-  opened-int zero v q = refl
-  opened-int (suc d) v q = refl
-
-  pub opened-bytes : (d b m q : ℕ) → opened_by tok n d (K.Bytes b m q) ≡ ok (atom (bytes b m)) q
-  unfolding opened_by value_of
-  opened-bytes zero b m q = refl
-  opened-bytes (suc d) b m q = refl
-
-  pub opened-none : (d : ℕ) → opened_by tok n d K.End ≡ bad
-  unfolding opened_by value_of
-  opened-none zero = refl
-  opened-none (suc d) = refl
-
-  pub opened-broken : (d : ℕ) → opened_by tok n d K.Broken ≡ bad
-  unfolding opened_by value_of
-  opened-broken zero = refl
-  opened-broken (suc d) = refl
+  -- an atom is a value, and nothing else but what a control token opens
+  pub opened-atom : (d : ℕ) (k : Token) → ((c q : ℕ) → k ≡ K.Control c q → ⊥) → end_of (opened_by tok n d k) ≡ end_of (atom_is k)
+  unfolding opened_by
+  opened-atom zero k h = plain _ k h
+  opened-atom (suc d) k h = plain _ k h
 
   pub opened-deep : (d c q : ℕ) → d ≡ 0 → opened_by tok n d (K.Control c q) ≡ bad
   unfolding opened_by value_of
@@ -72,15 +65,15 @@ list-end tok f n p = then-made (values_by tok f n p) (list p)
 
 -- ---- a named value
 module _ (tok : ℕ → Token) (f : ℕ → Out Value) (p : ℕ) where
-  pub named_none : end_of (atom_is (tok p)) ≡ E.Broken → named_by tok f p ≡ bad
+  pub named_none : end_of (atom_is (tok p)) ≡ None → named_by tok f p ≡ bad
   unfolding named_by
   named_none e = then-bad (atom_is (tok p)) _ e
 
-  pub named-bad : (q : ℕ) → end_of (atom_is (tok p)) ≡ E.At q → end_of (f q) ≡ E.Broken → end_of (named_by tok f p) ≡ E.Broken
+  pub named-bad : (q : ℕ) → end_of (atom_is (tok p)) ≡ Some q → end_of (f q) ≡ None → end_of (named_by tok f p) ≡ None
   unfolding named_by
-  named-bad q e h = then_at (atom_is (tok p)) _ q E.Broken e (λ a. rw (then-bad (f q) _ h) (end-bad Value))
+  named-bad q e h = then_at (atom_is (tok p)) _ q None e (λ a. rw (then-bad (f q) _ h) (end-bad Value))
 
-  pub named_ok : (q r : ℕ) → end_of (atom_is (tok p)) ≡ E.At q → end_of (f q) ≡ E.At r → end_of (named_by tok f p) ≡ end_of (mark_of 0xf3 (tok r))
+  pub named_ok : (q r : ℕ) → end_of (atom_is (tok p)) ≡ Some q → end_of (f q) ≡ Some r → end_of (named_by tok f p) ≡ end_of (mark_of 0xf3 (tok r))
   unfolding named_by
   named_ok q r e h =
       then_at (atom_is (tok p)) _ q _ e (λ a.
@@ -111,17 +104,17 @@ module _ (tok : ℕ → Token) (N : ℕ) (ta : (p : ℕ) → Has Any p N (tok p)
   pub values-step : (p : ℕ) → values_by tok f N p ≡ end_or (mark_of 0xf1 (tok p)) (then (f p) (λ v q. then (values_by tok f N q) (λ vs r. ok (more v vs) r)))
   values-step p = enough N (suc N) p (omega arith) (omega arith) ∙ one_more N p
 
-  pub values-shut : (p q : ℕ) → end_of (mark_of 0xf1 (tok p)) ≡ E.At q → values_by tok f N p ≡ ok none q
+  pub values-shut : (p q : ℕ) → end_of (mark_of 0xf1 (tok p)) ≡ Some q → values_by tok f N p ≡ ok none q
   values-shut p q e = values-step p ∙ or_at (mark_of 0xf1 (tok p)) _ q e
 
-  pub values-broken : (p : ℕ) → end_of (mark_of 0xf1 (tok p)) ≡ E.Broken → end_of (f p) ≡ E.Broken → values_by tok f N p ≡ bad
+  pub values-broken : (p : ℕ) → end_of (mark_of 0xf1 (tok p)) ≡ None → end_of (f p) ≡ None → values_by tok f N p ≡ bad
   values-broken p e h = values-step p ∙ or-on (mark_of 0xf1 (tok p)) _ e ∙ then-bad (f p) _ h
 
-  pub values-more : (p q : ℕ) (v : Value) → end_of (mark_of 0xf1 (tok p)) ≡ E.Broken → f p ≡ ok v q → values_by tok f N p ≡ then (values_by tok f N q) (λ vs r. ok (more v vs) r)
+  pub values-more : (p q : ℕ) (v : Value) → end_of (mark_of 0xf1 (tok p)) ≡ None → f p ≡ ok v q → values_by tok f N p ≡ then (values_by tok f N q) (λ vs r. ok (more v vs) r)
   values-more p q v e h = values-step p ∙ or-on (mark_of 0xf1 (tok p)) _ e ∙ then_is (f p) _ v q h
 
   -- the list ends where its rest ends
-  pub values-on : (p q : ℕ) → end_of (mark_of 0xf1 (tok p)) ≡ E.Broken → end_of (f p) ≡ E.At q → end_of (values_by tok f N p) ≡ end_of (values_by tok f N q)
+  pub values-on : (p q : ℕ) → end_of (mark_of 0xf1 (tok p)) ≡ None → end_of (f p) ≡ Some q → end_of (values_by tok f N p) ≡ end_of (values_by tok f N q)
   values-on p q e h =
       let v = end_is (f p) q h in
       ap end_of (values-more p q v.0 e v.1) ∙ then-made (values_by tok f N q) (more v.0)

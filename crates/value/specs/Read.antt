@@ -1,10 +1,8 @@
 -- Which value stands at a place of a source of tokens: tok says the token at a place.
-use Rattle.std.specs.Prelude.{ℕ, zero, suc, List, cond, length, eqb}
+use Rattle.std.specs.Prelude.{ℕ, zero, suc, List, Option, Some, None, cond, length, eqb}
 use Rattle.token.specs.declared.Token.{Token}
 use Rattle.token.specs.declared.Token.TheVariants as K
 use Rattle.token.specs.Token.{token_at}
-use Rattle.value.specs.declared.End.{End}
-use Rattle.value.specs.declared.End.TheVariants as E
 use Rattle.value.specs.Value.{Atom, int, bytes, Value, atom, list, named, Values, none, more}
 
 -- what stands at a place and where it ends, or nothing
@@ -18,9 +16,9 @@ then (ok a q) k = k a q
 then bad k = bad
 
 -- where it ends
-unfoldable pub end_of : {A : Type 0} → Out A → End
-end_of (ok a q) = E.At q
-end_of bad = E.Broken
+unfoldable pub end_of : {A : Type 0} → Out A → Option ℕ
+end_of (ok a q) = Some q
+end_of bad = None
 
 -- the control token c
 unfoldable pub mark_of : ℕ → Token → Out (Unit {0})

@@ -3,12 +3,9 @@ use Rattle.std.specs.Prelude.{ℕ, ◌+◌, ◌*◌, ◌/◌, List, ◌&&◌, co
 use Rattle.token.specs.declared.Token.{Token}
 use Rattle.token.specs.declared.Token.TheVariants as K
 use Rattle.token.specs.Bytes.{within}
-use Rattle.token.specs.Token.{token_at}
 use Rattle.token.specs.Write.{max_bytes}
-use Rattle.value.specs.declared.Source.{Source}
-use Rattle.value.specs.declared.Source.TheVariants as S
 use Rattle.value.specs.Value.{Value, Values}
-use Rattle.value.specs.Read.{Out, value_by, opened_by, values_by}
+use Rattle.value.specs.Read.{Out, value_by, values_by}
 
 -- count bytes from p on, of m lent
 unfoldable pub part_of : ℕ → ℕ → ℕ → ℕ → Token
@@ -30,20 +27,6 @@ node_at t m i = cond (ltb i (length t / 3)) (shape_of m (i + 1) (get_or t (i * 3
 abbrev pub tree_at : List ℕ → List ℕ → ℕ → ℕ → Out Value
 tree_at t bs d i = value_by (node_at t (length bs)) (length t / 3) d i
 
--- either source
-unfoldable pub token_from : Source → List ℕ → List ℕ → ℕ → Token
-token_from S.Bytes bs t = token_at bs
-token_from S.Tape bs t = node_at t (length bs)
-
-unfoldable pub steps_from : Source → List ℕ → List ℕ → ℕ
-steps_from S.Bytes bs t = length bs
-steps_from S.Tape bs t = length t / 3
-
-abbrev pub value_from : Source → List ℕ → List ℕ → ℕ → ℕ → Out Value
-value_from from bs t d p = value_by (token_from from bs t) (steps_from from bs t) d p
-
-abbrev pub opened_from : Source → List ℕ → List ℕ → ℕ → Token → Out Value
-opened_from from bs t d k = opened_by (token_from from bs t) (steps_from from bs t) d k
-
-abbrev pub values_from : Source → List ℕ → List ℕ → ℕ → ℕ → Out Values
-values_from from bs t d p = values_by (token_from from bs t) (value_from from bs t d) (steps_from from bs t) p
+-- the values of a list in any source: tok says the token at a place, and each ends within n
+abbrev pub values_from : (ℕ → Token) → ℕ → ℕ → ℕ → Out Values
+values_from tok n d p = values_by tok (value_by tok n d) n p

@@ -2,5 +2,5 @@
 use Rattle.packet.proofs.Envelope.{field-small}
 use Rattle.packet.proofs.field.Goals as goal
 
-pub returns : goal.returns
-returns c = (c.number_at.ensures, rw c.number_at.ensures (field-small _ (λ i. (c.type_inv.s i).fits) _))
+pub overflow_cast-result : goal.overflow_cast-result
+overflow_cast-result c = record { fits = rw c.number_at.ensures (field-small _ (λ i. (c.type_inv.s i).fits) _) }

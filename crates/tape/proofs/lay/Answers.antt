@@ -1,4 +1,5 @@
 -- `tape::lay` meets its contract: three words for each kind of token.
+use mathlib.Core.Logic.{inl, inr}
 use Rattle.tape.specs.Words.{atom_words}
 use Rattle.tape.specs.Steps.{token_words}
 use Rattle.tape.proofs.lay.Goals as goal
@@ -13,12 +14,8 @@ returns-in-Bytes c = rw c.in-Bytes.is c.triple-in-Bytes.ensures
 
 pub returns-in-Control : goal.returns-in-Control
 unfolding token_words
-returns-in-Control c = rw (c.in-Control.is, ← c.wide-k.ensures) c.triple-in-Control.ensures
+returns-in-Control c = rw (c.in-Control.is, ← c.from.ensures) c.triple-in-Control.ensures
 
 pub returns-in-End : goal.returns-in-End
 unfolding token_words
-returns-in-End c = rw c.in-End.is c.triple-in-End.ensures
-
-pub returns-in-Broken : goal.returns-in-Broken
-unfolding token_words
-returns-in-Broken c = rw c.in-Broken.is c.triple-in-Broken.ensures
+returns-in-End c = elim c.in-End.is [ inl e ↦ rw e c.triple-in-End.ensures | inr e ↦ rw e c.triple-in-End.ensures ]

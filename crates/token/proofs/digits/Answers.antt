@@ -1,32 +1,27 @@
-use Prim.Native.Nat.{◌+◌, ◌-◌, ◌%◌}
-use mathlib.Core.Path.{refl, ◌∙◌}
-use mathlib.Core.List.{[], ◌∷◌, ◌++◌}
-use native.Mathlib.Omega.{arith}
-use native.Mathlib.Nat.{mod-lt}
-use lib.ListN.{drop, length-set}
-use lib.Dec.{lit<}
-use Rattle.token.proofs.Writes.{digits-start, digits_more, digits-store, digits-done}
+use Rattle.std.proofs.Common.{ℕ, suc, ◌≡◌, ◌+◌, ◌-◌, ◌/◌, ◌%◌, ◌<◌, ◌≤◌, List, ◌∷◌, ◌++◌, length, drop, set, sym, ap, ◌∙◌, arith, length-set}
+use Rattle.std.proofs.lemmas.List.{drop-set}
+use lib.Seq.{append_snoc}
+use Rattle.token.specs.Bytes.{be_of}
 use Rattle.token.proofs.digits.Goals as goal
 
-pub loop-j-init : goal.loop-j-init
-loop-j-init c = let a = c.args in
-    let h = digits-start a.buf.now a.p a.n a.v in
-    ([], omega arith, h.0, h.1, refl)
+-- one digit more, in front of those that are there
+be-more : (n w : ℕ) (t : List ℕ) → be_of (suc n) w ++ t ≡ be_of n (w / 256) ++ ((w % 256) ∷ t)
+unfolding be_of
+be-more n w t = append_snoc (be_of n (w / 256)) (w % 256) t
 
-pub overflow_cast-buf : goal.overflow_cast-buf
-overflow_cast-buf c = record { fits = mod-lt _ {m = 256} (lit< tt) }
+more : (n v w j : ℕ) (d : List ℕ) → 0 < j → j ≤ length d → be_of n v ≡ be_of j w ++ drop j d
+    → be_of n v ≡ be_of (j - 1) (w / 256) ++ drop (j - 1) (set d (j - 1) (w % 256))
+more n v w j d h k e =
+    let q : j ≡ suc (j - 1) = omega arith in
+    let r : j - 1 + 1 ≡ j = omega arith in
+    e ∙ ap (λ i. be_of i w ++ drop j d) q ∙ be-more (j - 1) w (drop j d) ∙ rw (drop-set d (j - 1) (w % 256) (omega arith), r)
 
 pub loop-j-preserved : goal.loop-j-preserved
-loop-j-preserved c = let a = c.args in
-    let l = c.loop-j in (
-      (l.w % 256) ∷ l.invariant.0,
-      omega arith,
-      digits_more a.n a.v l.w l.j l.invariant.0 c.loop-j-test.true l.invariant.2,
-      digits-store a.buf.now l.buf (l.invariant.0 ++ drop (a.p + a.n) a.buf.now) a.p l.j (l.w % 256) c.loop-j-test.true (omega arith) l.invariant.3,
-      length-set l.buf (a.p + (l.j - 1)) (l.w % 256) ∙ l.invariant.4,
-    )
+loop-j-preserved c = let l = c.loop-j in
+    rw length-set (more _ _ l.v l.j l.buf c.loop-j-test.true (omega arith) l.invariant)
 
 pub returns : goal.returns
-returns c = let a = c.args in
-    let l = c.loop-j in
-    digits-done a.buf.now l.buf l.invariant.0 a.p a.n a.v l.w l.j (omega arith) l.invariant.2 l.invariant.3
+unfolding be_of
+returns c = let l = c.loop-j in
+    let z : l.j ≡ 0 = omega arith in
+    rw (← l.auto.buf) (sym (rw z at l.invariant))

@@ -4,4 +4,4 @@ use Rattle.value.proofs.Values.{value-by}
 use Rattle.value.proofs.value.Goals as goal
 
 pub returns : goal.returns
-returns c = sym (value-by _ _ _ _ c.token_from-t.ensures c.opened.ensures refl)
+returns g c = sym (value-by _ _ _ _ c.token.ensures c.opened.ensures refl)
