@@ -8,7 +8,7 @@ use Rattle.token.specs.Token.{lead_of, atom_of, form_of, token_of, is_control}
 use Rattle.token.specs.Write.{head_of, enc_bytes}
 use Rattle.ranges.specs.Decides.{all}
 use Rattle.ranges.specs.Fit.{fit_b}
-use Rattle.ranges.specs.Set.{number_of, flag_of, edited_row, keeps, set_ok}
+use Rattle.ranges.specs.Set.{edited_row, set_ok}
 use Rattle.ranges.specs.Media.{shadow_of, media_of}
 use Rattle.bench.specs.Figures.{figures, AllHold}
 
@@ -18,5 +18,5 @@ unfolding enc_bytes head_of
 headed-32 bs e = rw e
 
 pub all_hold : AllHold figures
-unfolding figures lead_of within is_control atom_of form_of token_of be_val number_of flag_of edited_row keeps set_ok fit_b all shadow_of media_of
+unfolding figures lead_of within is_control atom_of form_of token_of be_val edited_row set_ok fit_b all shadow_of media_of
 all_hold = (refl, (refl, (refl, (refl, (refl, (refl, (headed-32, (refl, (refl, (refl, (refl, (refl, (refl, (refl, tt))))))))))))))

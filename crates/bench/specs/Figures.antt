@@ -1,13 +1,11 @@
 -- The starred bench figures.
-use Rattle.std.specs.Prelude.{ℕ, ◌≡◌, Bool, true, false, List, [], ◌∷◌, length, replicate, set}
+use Rattle.std.specs.Prelude.{ℕ, ◌≡◌, Bool, true, false, List, [], ◌∷◌, length, replicate, set, Some, None}
 use Rattle.token.specs.declared.Token.{Token}
 use Rattle.token.specs.declared.Token.TheVariants as K
 use Rattle.token.specs.Token.{token_at}
 use Rattle.token.specs.Write.{enc_bytes}
 use Rattle.ranges.specs.declared.Row.{Row}
 use Rattle.ranges.specs.declared.Edit.{Edit}
-use Rattle.ranges.specs.declared.Number.TheVariants as N
-use Rattle.ranges.specs.declared.Flag.TheVariants as F
 use Rattle.ranges.specs.declared.Verdict.{Verdict}
 use Rattle.ranges.specs.declared.Verdict.TheVariants as W
 use Rattle.ranges.specs.Row.{row_count, no_row}
@@ -17,13 +15,13 @@ use Rattle.ranges.specs.Media.{media_of}
 -- start and length, and nothing else
 abbrev pub span : ℕ → ℕ → Edit
 span start len = record {
-  start = N.To start;
-  length = N.To len;
-  read_enabled = F.Keep;
-  write_enabled = F.Keep;
-  read_locked = F.Keep;
-  write_locked = F.Keep;
-  lock_on_program = F.Keep;
+  start = Some start;
+  length = Some len;
+  read_enabled = None;
+  write_enabled = None;
+  read_locked = None;
+  write_locked = None;
+  lock_on_program = None;
 }
 
 -- "N = 1,000,000, range 1 at 1,000, length 100"

@@ -1,8 +1,7 @@
 -- What a test of a value's kind, or of an optional parameter, says of the value itself: each is turned round once, here.
 use Prim.Native.Nat.{ℕ}
-use mathlib.Core.Path.{◌≡◌, refl, sym}
-use mathlib.Core.Bool.{Bool, true, false, ◌&&◌, ◌||◌, cond, true≢false}
-use mathlib.Core.Logic.{◌⊎◌, inl, inr}
+use mathlib.Core.Path.{◌≡◌, refl}
+use mathlib.Core.Bool.{Bool, true, false, cond}
 use lib.Dec.{eqb}
 use borrow.Author.Tests.{eqb-true}
 use Rattle.value.specs.Value.{int, bytes, Value, atom, list, named, Values, none, more}
@@ -13,51 +12,40 @@ use Rattle.params.specs.Names.{names, inner, optional, beyond, nothing, is_int, 
 use Rattle.params.specs.Params.{is_the}
 use Rattle.params.specs.Exact.{number, text, name}
 
-pub no : {A : Type 0} → false ≡ true → A
-no e = absurd (true≢false (sym e))
-
-pub two : (a : Bool) {b : Bool} → (a && b) ≡ true → (a ≡ true) × (b ≡ true)
-two true e = (refl, e)
-two false e = no e
-
-pub either-of : (a : Bool) {b : Bool} → (a || b) ≡ true → (a ≡ true) ⊎ (b ≡ true)
-either-of true e = inl refl
-either-of false e = inr e
-
 -- ---- a property of every value that passes a test of kinds
 module _ (P : Value → Type 0) where
   pub by_int : ((n : ℕ) → P (number n)) → (v : Value) → is_int (slot_of v) ≡ true → P v
   unfolding slot_of is_int
   by_int f (atom (int n)) e = f n
-  by_int f (atom (bytes p n)) e = no e
-  by_int f (list p vs) e = no e
-  by_int f (named a v) e = no e
+  by_int f (atom (bytes p n)) e = absurd cc
+  by_int f (list p vs) e = absurd cc
+  by_int f (named a v) e = absurd cc
 
   pub by_bytes : ((p n : ℕ) → P (text p n)) → (v : Value) → is_bytes (slot_of v) ≡ true → P v
   unfolding slot_of is_bytes
-  by_bytes f (atom (int n)) e = no e
+  by_bytes f (atom (int n)) e = absurd cc
   by_bytes f (atom (bytes p n)) e = f p n
-  by_bytes f (list p vs) e = no e
-  by_bytes f (named a v) e = no e
+  by_bytes f (list p vs) e = absurd cc
+  by_bytes f (named a v) e = absurd cc
 
   pub by-uid : ((p : ℕ) → P (text p 8)) → (v : Value) → is_uid (slot_of v) ≡ true → P v
   unfolding slot_of is_uid
-  by-uid f (atom (int n)) e = no e
+  by-uid f (atom (int n)) e = absurd cc
   by-uid f (atom (bytes p n)) e = rw (eqb-true n 8 e) (f p)
-  by-uid f (list p vs) e = no e
-  by-uid f (named a v) e = no e
+  by-uid f (list p vs) e = absurd cc
+  by-uid f (named a v) e = absurd cc
 
   pub by-the : (k : ℕ) → P (number k) → (v : Value) → is_the k v ≡ true → P v
   unfolding slot_of is_int int_of
   by-the k f (atom (int n)) e = rw (eqb-true n k e) f
-  by-the k f (atom (bytes p n)) e = no e
-  by-the k f (list p vs) e = no e
-  by-the k f (named a v) e = no e
+  by-the k f (atom (bytes p n)) e = absurd cc
+  by-the k f (list p vs) e = absurd cc
+  by-the k f (named a v) e = absurd cc
 
 pub none_left : (vs : Values) → nothing vs ≡ true → vs ≡ none
 unfolding nothing
 none_left none e = refl
-none_left (more v vs) e = no e
+none_left (more v vs) e = absurd cc
 
 -- ---- the optional parameter n: left out, or in front and of its kind; and what follows
 pub data Optional (n : ℕ) (kind : Slot → Bool) : Values → Slot → Values → Type 0 where

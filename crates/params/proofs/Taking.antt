@@ -1,18 +1,16 @@
 -- What `first`, `take` and `last` leave of a list: one law each, whatever is made of the values.
+use Rattle.std.specs.Prelude.{Option, Some, None, is_some}
 use Prim.Native.Nat.{ℕ}
 use mathlib.Core.Path.{◌≡◌, refl, sym, ◌∙◌}
 use mathlib.Core.List.{List}
 use mathlib.Core.Bool.{Bool, true, false, cond}
 use Rattle.token.specs.Token.{token_at}
-use Rattle.value.specs.declared.End.TheVariants as E
 use Rattle.value.specs.Value.{int, bytes, Value, atom, list, named, Values, none, more}
 use Rattle.value.specs.Read.{Out, ok, bad, then, end_of, mark_of, value_at, values_at}
 use Rattle.value.proofs.Inside.{values-step}
 use Rattle.value.proofs.Outs.{or_at, or-on}
 use Rattle.item.specs.declared.Slot.{Slot}
 use Rattle.item.specs.declared.Slot.TheVariants as S
-use Rattle.item.specs.declared.Item.{Item}
-use Rattle.item.specs.declared.Item.TheVariants as I
 use Rattle.item.specs.Item.{slot_of, item_of, step_at}
 use Rattle.item.proofs.Read.{Inner, inside}
 use Rattle.item.proofs.Steps.{by-step}
@@ -87,13 +85,6 @@ take_at s d n p e = rw e (by-step (λ i. Took s d n (taken_of n p i).slot (value
     (λ v q k f. rw (take-item n p q v) (took_more s d n v (q, inside s d p k) p q (names n v) refl f))
     (λ h. rw h refl))
 
-pub take-other : (n p : ℕ) (i : Item) → ((k : ℕ) (x : Slot) (q : ℕ) → i ≡ I.Named k x q → ⊥) → taken_of n p i ≡ taken S.Absent p
-unfolding taken_of
-take-other n p (I.Shut q) h = refl
-take-other n p (I.Plain x q) h = refl
-take-other n p (I.Named k x q) h = absurd (h k x q refl)
-take-other n p I.Broken h = refl
-
 -- ---- `last`
 then-more : (v : Value) (o : Out Values) → given false nothing (then o (λ vs r. ok (more v vs) r)) ≡ false
 unfolding then given nothing
@@ -105,12 +96,10 @@ unfolding then given
 then-last (ok v q) k = then-more v (k q)
 then-last bad k = refl
 
-pub last-shut : (s : List ℕ) (d p q : ℕ) → end_of (mark_of 0xf1 (token_at s p)) ≡ E.At q → given false nothing (values_at s d p) ≡ true
+pub last-says : (s : List ℕ) (d p : ℕ) (o : Option ℕ) → end_of (mark_of 0xf1 (token_at s p)) ≡ o → given false nothing (values_at s d p) ≡ is_some o
 unfolding given nothing
-last-shut s d p q e = rw (values-step s d p ∙ or_at (mark_of 0xf1 (token_at s p)) _ q e)
-
-pub last_on : (s : List ℕ) (d p : ℕ) → end_of (mark_of 0xf1 (token_at s p)) ≡ E.Broken → given false nothing (values_at s d p) ≡ false
-last_on s d p e = rw (values-step s d p ∙ or-on (mark_of 0xf1 (token_at s p)) _ e) (then-last (value_at s d p) (values_at s d))
+last-says s d p (Some q) e = rw (values-step s d p ∙ or_at (mark_of 0xf1 (token_at s p)) _ q e)
+last-says s d p None e = rw (values-step s d p ∙ or-on (mark_of 0xf1 (token_at s p)) _ e) (then-last (value_at s d p) (values_at s d))
 
 -- ---- what is made of the values, one after the other
 module _ {A : Type 0} (z : A) where

@@ -1,46 +1,31 @@
 -- The tests of rows decide what they are for, and what changes no span keeps a fit. Over any number of rows.
 use Prim.Native.Nat.{ℕ, ◌+◌, ◌≤◌, ◌<◌}
-use mathlib.Core.Path.{◌≡◌, sym, ◌∙◌}
+use mathlib.Core.Path.{◌≡◌}
 use mathlib.Core.List.{List}
 use mathlib.Core.Logic.{⊎_elim}
-use lib.ListN.{length}
+use lib.ListN.{length, get_or, take, drop}
 use native.Mathlib.Nat.{le_refl}
 use native.Mathlib.Omega.{arith}
+use Rattle.std.proofs.lemmas.Grind.{common_steps}
 use Rattle.ranges.specs.declared.Row.{Row}
 use Rattle.ranges.specs.Decides.{Decides}
-use Rattle.ranges.specs.Row.{row_at, Holds, holds_b}
+use Rattle.ranges.specs.Row.{no_row, row_at, Holds, holds_b}
 use Rattle.ranges.specs.Fit.{Apart, Ends, Fit, apart_b, fit_at, fit_b}
-use Rattle.ranges.proofs.Decide.{le-or-lt, is_true, is_false, map, dec-le, dec-lt, dec-not, dec-and, dec-imp, dec-all}
+use Rattle.ranges.proofs.Decide.{le-or-lt, map, dec-le, dec-lt, dec-not, dec-and, dec-imp, dec-all}
+
+-- the ranges are the rows past the global one
+pub range-row : (rows : List Row) (n i : ℕ) → i < length (take n (drop 1 rows)) → get_or (take n (drop 1 rows)) i no_row ≡ row_at rows (i + 1)
+range-row rows n i l = grind (arith, common_steps)
 
 pub holds-decides : (r : Row) (s : ℕ) → Decides (holds_b r s) (Holds r s)
 holds-decides r s =
     map (λ p. record { from = p.0; to = p.1 }) (λ h. (h.from, h.to)) (dec-and _ _ (dec-le _ _) (dec-lt _ _))
 
--- from at on and up to e the row holds every sector or none
-module _ (r : Row) (at e : ℕ) where
-  abbrev pub Alike : Type 0
-  Alike = (s : ℕ) → at ≤ s → s < e → holds_b r s ≡ holds_b r at
-
-  none : ((s : ℕ) → at ≤ s → s < e → Holds r s → ⊥) → Alike
-  none h s a b = is_false _ (holds-decides r s) (h s a b) ∙ sym (is_false _ (holds-decides r at) (h at (le_refl at) (omega arith)))
-
-  every : ((s : ℕ) → at ≤ s → s < e → Holds r s) → Alike
-  every h s a b = is_true _ (holds-decides r s) (h s a b) ∙ sym (is_true _ (holds-decides r at) (h at (le_refl at) (omega arith)))
-
-  pub alike-before : e ≤ r.start → Alike
-  alike-before l = none (λ s a b (h : Holds r s). omega arith)
-
-  pub alike-past : r.start + r.length ≤ at → Alike
-  alike-past l = none (λ s a b (h : Holds r s). omega arith)
-
-  pub alike-inside : r.start ≤ at → e ≤ r.start + r.length → Alike
-  alike-inside l m = every (λ s a b. record { from = omega arith; to = omega arith })
-
 -- two rows that both hold the later start share it
-pub clash : (a b : Row) → a.start ≤ b.start → b.start < a.start + a.length → 0 < b.length → Apart a b → ⊥
+clash : (a b : Row) → a.start ≤ b.start → b.start < a.start + a.length → 0 < b.length → Apart a b → ⊥
 clash a b h l p ap = ap b.start (record { from = h; to = l }) (record { from = le_refl b.start; to = omega arith })
 
-pub apart-sym : (a b : Row) → Apart a b → Apart b a
+apart-sym : (a b : Row) → Apart a b → Apart b a
 apart-sym a b ap s x y = ap s y x
 
 meets : (a b : Row) → 0 < a.length → 0 < b.length → a.start < b.start + b.length → b.start < a.start + a.length → Apart a b → ⊥

@@ -8,13 +8,12 @@ use lib.ListN.{length}
 use native.Mathlib.Nat.{le_of_suc-le-suc, not-suc-le-zero, eq-or-lt_of_le, lt-suc_self}
 use native.Mathlib.Numerals.{add-one}
 use native.Mathlib.Omega.{arith}
-use borrow.Author.Tests.{le-leb}
 use Rattle.ranges.specs.declared.Row.{Row}
 use Rattle.ranges.specs.Decides.{Decides}
 use Rattle.ranges.specs.Row.{row_at, Holds, holds_b}
 use Rattle.ranges.specs.Fit.{Fit}
 use Rattle.ranges.specs.Owner.{owner_below, owner_of, Owns}
-use Rattle.ranges.proofs.Decide.{le-or-lt, dec-le, dec-and, is_true, is_false}
+use Rattle.ranges.proofs.Decide.{le-or-lt, dec-le, dec-and}
 use Rattle.ranges.proofs.Fitted.{holds-decides}
 
 -- one row more, for two sectors that the row holds both or neither
@@ -29,19 +28,6 @@ unfolding owner_of
 owner-done rows s t i e f = rw e at f
 
 module _ (rows : List Row) (s : ℕ) where
-  -- one row more
-  pub owner_here : (i : ℕ) → 1 ≤ i → Holds (row_at rows i) s → owner_below rows s (i + 1) ≡ i
-  unfolding owner_below
-  owner_here i o h = rw (add-one, le-leb 1 i o, is_true _ (holds-decides (row_at rows i) s) h) refl
-
-  pub owner-past : (i : ℕ) → 1 ≤ i → (Holds (row_at rows i) s → ⊥) → owner_below rows s (i + 1) ≡ owner_below rows s i
-  unfolding owner_below
-  owner-past i o h = rw (add-one, le-leb 1 i o, is_false _ (holds-decides (row_at rows i) s) h) refl
-
-  pub owner-one : owner_below rows s 1 ≡ 0
-  unfolding owner_below
-  owner-one = refl
-
   abbrev Found : ℕ → ℕ → Type 0
   Found m o =
       ((o ≡ 0) × ((i : ℕ) → 1 ≤ i → i < m → Holds (row_at rows i) s → ⊥))

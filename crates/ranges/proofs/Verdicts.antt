@@ -1,22 +1,17 @@
--- What the media is answered, case by case, and what a clear transfer says of each sector. Over any number of rows.
+-- What a clear transfer says of each sector. Over any number of rows.
 use Prim.Native.Nat.{ℕ, ◌+◌, ◌-◌, ◌≤◌, ◌<◌}
 use mathlib.Core.Path.{◌≡◌, refl, sym, subst}
-use mathlib.Core.Bool.{Bool, true, false, not, cond, true≢false}
+use mathlib.Core.Bool.{Bool, true, false, not, true≢false}
 use mathlib.Core.Logic.{⊎_elim}
 use mathlib.Core.List.{List}
-use native.Mathlib.Nat.{le_refl}
 use native.Mathlib.Omega.{arith}
-use borrow.Author.Tests.{lt-ltb, le-ltb, le-leb, eq-eqb, ne_eqb}
 use Rattle.ranges.specs.declared.Row.{Row}
-use Rattle.ranges.specs.declared.Mbr.{Mbr}
-use Rattle.ranges.specs.declared.Verdict.{Verdict}
-use Rattle.ranges.specs.declared.Verdict.TheVariants as W
 use Rattle.ranges.specs.Decides.{Decides}
 use Rattle.ranges.specs.Row.{row_at}
 use Rattle.ranges.specs.Owner.{owner_of}
-use Rattle.ranges.specs.Media.{barred_b, clear_b, shadow_end, shadowed, shadow_of, media_of}
+use Rattle.ranges.specs.Media.{barred_b, clear_b}
 use Rattle.ranges.specs.Laws.{Passes}
-use Rattle.ranges.proofs.Decide.{le-or-lt, is_true, is_false, map, dec-le, dec-nand, dec-all}
+use Rattle.ranges.proofs.Decide.{le-or-lt, is_true, is_false, map, dec-nand, dec-all}
 
 -- a row that is not barred lets pass
 pub passes-decides : (r : Row) (write : Bool) → Decides (not (barred_b r write)) (Passes r write)
@@ -62,44 +57,3 @@ module _ (rows : List Row) (write : Bool) (start : ℕ) where
         (λ l. rw (same s l b, ← e) ((passes-decides (row_at rows o) write).holds (rw f refl)))
         (λ l. h s a l)
         (le-or-lt at s)
-
-module _ (start count : ℕ) {write : Bool} where
-  pub shadow-write : write ≡ true → W.Refused ≡ shadow_of write start count
-  unfolding shadow_of
-  shadow-write w = rw w refl
-
-  pub shadow-read : write ≡ false → start + count ≤ shadow_end → W.Shadow ≡ shadow_of write start count
-  unfolding shadow_of
-  shadow-read w h = rw (w, le-leb (start + count) shadow_end h) refl
-
-  pub shadow-past : write ≡ false → (start + count ≤ shadow_end → ⊥) → W.Refused ≡ shadow_of write start count
-  unfolding shadow_of
-  shadow-past w h = rw (w, is_false _ (dec-le (start + count) shadow_end) h) refl
-
-module _ (rows : List Row) (m : Mbr) (write : Bool) (start count : ℕ) where
-  pub beyond : (active : Bool) (n : ℕ) → (start + count ≤ n → ⊥) → W.Refused ≡ media_of rows m active n write start count
-  unfolding media_of
-  beyond active n h = rw (lt-ltb n (start + count) (⊎_elim (λ l. absurd (h l)) (λ l. l) (le-or-lt (start + count) n))) refl
-
-  module _ (n : ℕ) (h : start + count ≤ n) where
-    pub nothing : (active : Bool) → count ≡ 0 → W.Disk ≡ media_of rows m active n write start count
-    unfolding media_of
-    nothing active e = rw (le-ltb n (start + count) h, eq-eqb count 0 e) refl
-
-    -- a disk that reaches so far could as well end there
-    pub reaching : {active : Bool} → active ≡ true → media_of rows m true (start + count) write start count ≡ media_of rows m active n write start count
-    unfolding media_of
-    reaching a = rw (le-ltb n (start + count) h, le-ltb (start + count) (start + count) (le_refl _), a) refl
-
-    module _ (some : count ≡ 0 → ⊥) where
-      pub inactive : {active : Bool} → active ≡ false → W.Disk ≡ media_of rows m active n write start count
-      unfolding media_of
-      inactive a = rw (le-ltb n (start + count) h, ne_eqb count 0 some, a) refl
-
-      pub in-front : {v : Verdict} → shadowed m start ≡ true → v ≡ shadow_of write start count → v ≡ media_of rows m true n write start count
-      unfolding media_of
-      in-front s e = rw (le-ltb n (start + count) h, ne_eqb count 0 some, s) e
-
-      pub behind : {v : Verdict} → shadowed m start ≡ false → v ≡ cond (clear_b rows write start count) W.Disk W.Refused → v ≡ media_of rows m true n write start count
-      unfolding media_of
-      behind s e = rw (le-ltb n (start + count) h, ne_eqb count 0 some, s) e

@@ -4,4 +4,4 @@ use Rattle.params.proofs.Lists.{cells_are}
 use Rattle.params.proofs.cell_block.Goals as goal
 
 pub returns : goal.returns
-returns c = c.block_of.ensures ∙ cells_are c.args.s.now 14 _ c.take-a.ensures c.take-b.ensures c.last-e.ensures
+returns c = c.block_of.ensures ∙ cells_are c.args.s.now _ c.take-a.ensures c.take-b.ensures c.last.ensures

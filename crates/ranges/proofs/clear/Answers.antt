@@ -12,12 +12,6 @@ owner-lt : (c : After-owner-o) → c.owner-o.result < row_count
 owner-lt c =
     omega (arith, c.owner-o.ensures, (owns c.args.rows c.loop-at.at (omega arith)).within)
 
-pub overflow_add-end : goal.overflow_add-end
-overflow_add-end c = omega arith
-
-pub loop-at-init : goal.loop-at-init
-loop-at-init c = (omega arith, omega arith, (λ s a b. absurd (omega arith)))
-
 pub offset_bounds-rows-o : goal.offset_bounds-rows-o
 offset_bounds-rows-o c = omega (arith, owner-lt c)
 
@@ -27,12 +21,6 @@ bounds-rows-o c = owner-lt c
 pub returns-then-barred : goal.returns-then-barred
 returns-then-barred c =
     barred-at _ _ _ _ c.loop-at.at (omega arith) (omega arith) _ c.owner-o.ensures (sym c.barred.ensures ∙ c.if-barred.true)
-
-pub run_end-at-requires : goal.run_end-at-requires
-run_end-at-requires c = omega arith
-
-pub loop-at-smaller : goal.loop-at-smaller
-loop-at-smaller c = omega arith
 
 pub loop-at-preserved : goal.loop-at-preserved
 loop-at-preserved c =
