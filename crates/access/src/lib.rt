@@ -1,7 +1,7 @@
 // What a UID names, and who may do what: the access rows are one fixed table, searched for each call.
 #![tactic(auto)]
 
-ghost use Rattle.std.specs.Prelude.{◌≡◌, ◌≤◌, ◌<◌, ◌+◌, ◌-◌, true, false, cond};
+ghost use Rattle.std.specs.Prelude.{◌≡◌, ◌<◌, ◌+◌, ◌-◌, true, false, cond, Some, None};
 ghost use Rattle.token.specs.Bytes.{within};
 ghost use Rattle.model.specs.Record.{admin_count, proved_at};
 ghost use Rattle.model.specs.Uids.{method_of, nth, object_in, who_in, uid_of};
@@ -52,94 +52,73 @@ const RANGE: u64 = 0x0000080200030000;
 
 const MBR_CONTROL: u64 = 0x0000080300000001;
 
-// Which method a UID names, by its last four bytes; 0 is none.
+// Which method a UID names, by its last four bytes; 0 is none, and stays a number, as the rows have it.
+#[tactic(auto, unfolding(model::specs::Uids::method_of, token::specs::Bytes::within))]
 pub fn method_of(uid: u64) -> u32
     ensures { result ≡ method_of uid }
 {
     if uid < METHODS {
         return 0;
     }
-    let m = uid - METHODS;
-    if 0xffffffff < m {
-        return 0;
-    }
-    m as u32
+    u32::try_from(uid - METHODS).unwrap_or(0)
 }
 
-// The k that a UID is past base, where it is from 1 to count; else 0.
-fn past(base: u64, count: u8, uid: u64) -> u8
-    ensures { (result ≡ nth base count uid (λ k. k) 0) × (result ≤ count) }
+// The k that a UID is past base, where it is from 1 to count.
+#[tactic(auto, unfolding(token::specs::Bytes::within))]
+fn past(base: u64, count: u8, uid: u64) -> Option<u8>
+    ensures { result ≡ nth base count uid Some None }
 {
-    if uid <= base {
-        return 0;
+    if uid <= base || u64::from(count) < uid - base {
+        return None;
     }
-    let k = uid - base;
-    if (count as u64) < k {
-        return 0;
-    }
-    k as u8
+    Some((uid - base) as u8)
 }
 
-// The row that a UID is past admin or past user: an admin's or a user's; else 0.
-fn row_past(admin: u64, user: u64, uid: u64) -> u8
-    ensures { result ≡ row_past admin user uid (λ k. k) 0 }
+// The row that a UID is past admin or past user: an admin's or a user's.
+fn row_past(admin: u64, user: u64, uid: u64) -> Option<u8>
+    ensures { result ≡ row_past admin user uid Some None }
 {
-    let a = past(admin, ADMINS, uid);
-    if a != 0 {
-        return a;
+    if let Some(a) = past(admin, ADMINS, uid) {
+        return Some(a);
     }
-    let u = past(user, USERS, uid);
-    if u != 0 {
-        return ADMINS + u;
-    }
-    0
+    let u = past(user, USERS, uid)?;
+    Some(ADMINS + u)
 }
 
 // What a UID names in the Admin SP.
+#[tactic(auto, unfolding(model::specs::Uids::object_in))]
 fn object_in_admin(uid: u64) -> Object
     ensures { result ≡ object_in false uid }
 {
-    if uid == THIS_SP {
-        return Object::ThisSp;
+    match uid {
+        THIS_SP => Object::ThisSp,
+        PIN_SID => Object::PinSid,
+        PIN_MSID => Object::PinMsid,
+        TPER_INFO => Object::TperInfo,
+        SP_ADMIN => Object::SpAdmin,
+        SP_LOCKING => Object::SpLocking,
+        _ => Object::Nothing,
     }
-    if uid == PIN_SID {
-        return Object::PinSid;
-    }
-    if uid == PIN_MSID {
-        return Object::PinMsid;
-    }
-    if uid == TPER_INFO {
-        return Object::TperInfo;
-    }
-    if uid == SP_ADMIN {
-        return Object::SpAdmin;
-    }
-    if uid == SP_LOCKING {
-        return Object::SpLocking;
-    }
-    Object::Nothing
 }
 
 // What a UID names in the Locking SP.
+#[tactic(auto, unfolding(model::specs::Uids::object_in))]
 fn object_in_locking(uid: u64) -> Object
     ensures { result ≡ object_in true uid }
 {
     if uid == THIS_SP {
         return Object::ThisSp;
     }
-    let authority = row_past(ADMIN, USER, uid);
-    if authority != 0 {
+    if let Some(authority) = row_past(ADMIN, USER, uid) {
         return Object::Authority(authority);
     }
-    let pin = row_past(ADMIN_PIN, USER_PIN, uid);
-    if pin != 0 {
+    if let Some(pin) = row_past(ADMIN_PIN, USER_PIN, uid) {
         return Object::Pin(pin);
     }
     if uid == GLOBAL_RANGE {
         return Object::Range(0);
     }
-    let range = past(RANGE, (ROWS - 1) as u8, uid);
-    if range != 0 {
+    if let Some(range) = past(RANGE, (ROWS - 1) as u8, uid) {
         return Object::Range(range);
     }
     if uid == MBR_CONTROL {
@@ -153,45 +132,59 @@ pub fn object_in(locking: bool, uid: u64) -> Object
     ensures { result ≡ object_in locking uid }
 {
     if locking {
-        return object_in_locking(uid);
+        object_in_locking(uid)
+    } else {
+        object_in_admin(uid)
     }
-    object_in_admin(uid)
+}
+
+// Who a UID names in the Admin SP.
+#[tactic(auto, unfolding(model::specs::Uids::who_in))]
+fn who_in_admin(uid: u64) -> Who
+    ensures { result ≡ who_in false uid }
+{
+    match uid {
+        ANYBODY => Who::Anybody,
+        CLASS_ADMINS => Who::Class,
+        SID => Who::Row(0),
+        _ => Who::Unknown,
+    }
+}
+
+// Who a UID names in the Locking SP.
+#[tactic(auto, unfolding(model::specs::Uids::who_in))]
+fn who_in_locking(uid: u64) -> Who
+    ensures { result ≡ who_in true uid }
+{
+    if uid == ANYBODY {
+        return Who::Anybody;
+    }
+    if uid == CLASS_ADMINS || uid == CLASS_USERS {
+        return Who::Class;
+    }
+    match row_past(ADMIN, USER, uid) {
+        Some(row) => Who::Row(usize::from(row)),
+        None => Who::Unknown,
+    }
 }
 
 // Who a UID names in an SP.
 pub fn who_in(locking: bool, uid: u64) -> Who
     ensures { result ≡ who_in locking uid }
 {
-    if uid == ANYBODY {
-        return Who::Anybody;
-    }
-    if uid == CLASS_ADMINS {
-        return Who::Class;
-    }
     if locking {
-        if uid == CLASS_USERS {
-            return Who::Class;
-        }
-        let row = row_past(ADMIN, USER, uid);
-        if row != 0 {
-            return Who::Row(row as usize);
-        }
-        return Who::Unknown;
+        who_in_locking(uid)
+    } else {
+        who_in_admin(uid)
     }
-    if uid == SID {
-        return Who::Row(0);
-    }
-    Who::Unknown
 }
 
 // Whether a row is an admin's.
+#[tactic(auto, unfolding(token::specs::Bytes::within))]
 fn is_admin(r: u8) -> bool
     ensures { result ≡ within 1 admin_count r }
 {
-    if r < 1 {
-        return false;
-    }
-    r <= ADMINS
+    matches!(r, 1..=ADMINS)
 }
 
 // The UID of a row that is an admin's or a user's.
@@ -200,15 +193,13 @@ fn row_uid(admin: u64, user: u64, r: u8) -> u64
     ensures { result ≡ cond (within 1 admin_count r) (admin + r) (user + (r - admin_count)) }
 {
     if is_admin(r) {
-        return admin + (r as u64);
+        return admin + u64::from(r);
     }
-    if ADMINS < r {
-        return user + ((r - ADMINS) as u64);
-    }
-    user
+    user + u64::from(r.saturating_sub(ADMINS))
 }
 
 // The UID of an object of a session's SP.
+#[tactic(auto, unfolding(model::specs::Uids::uid_of))]
 pub fn uid_of(o: Object) -> u64
     ensures { result ≡ uid_of o }
 {
@@ -221,33 +212,26 @@ pub fn uid_of(o: Object) -> u64
         Object::ThisSp => THIS_SP,
         Object::Authority(r) => row_uid(ADMIN, USER, r),
         Object::Pin(r) => row_uid(ADMIN_PIN, USER_PIN, r),
-        Object::Range(k) => {
-            if k == 0 {
-                return GLOBAL_RANGE;
-            }
-            RANGE + (k as u64)
-        }
+        Object::Range(0) => GLOBAL_RANGE,
+        Object::Range(k) => RANGE + u64::from(k),
         Object::MbrControl => MBR_CONTROL,
         Object::Nothing => 0,
     }
 }
 
 // The last column that is known of an object.
+#[tactic(auto, unfolding(model::specs::Access::last_column))]
 pub fn last_column(o: Object) -> u8
     ensures { result ≡ last_column o }
 {
     match o {
-        Object::PinSid => 7,
-        Object::PinMsid => 7,
+        Object::PinSid | Object::PinMsid | Object::Pin(_) => 7,
+        Object::SpAdmin | Object::SpLocking => 7,
         Object::TperInfo => 8,
-        Object::SpAdmin => 7,
-        Object::SpLocking => 7,
-        Object::ThisSp => 0,
         Object::Authority(_) => 18,
-        Object::Pin(_) => 7,
         Object::Range(_) => 19,
         Object::MbrControl => 3,
-        Object::Nothing => 0,
+        Object::ThisSp | Object::Nothing => 0,
     }
 }
 
@@ -470,6 +454,7 @@ fn table() -> [Access; COUNT]
 }
 
 // An object's kind in the table.
+#[tactic(auto, unfolding(model::specs::Access::kind_of))]
 fn kind_of(locking: bool, o: Object) -> u8
     ensures { result ≡ kind_of locking o }
 {
@@ -479,42 +464,26 @@ fn kind_of(locking: bool, o: Object) -> u8
         Object::TperInfo => 3,
         Object::SpAdmin => 4,
         Object::SpLocking => 5,
-        Object::ThisSp => {
-            if locking {
-                return 7;
-            }
-            6
-        }
-        Object::Authority(r) => {
-            if r == 1 {
-                return 8;
-            }
-            9
-        }
-        Object::Pin(r) => {
-            if is_admin(r) {
-                return 10;
-            }
-            11
-        }
-        Object::Range(k) => {
-            if k == 0 {
-                return 12;
-            }
-            13
-        }
+        Object::ThisSp if locking => 7,
+        Object::ThisSp => 6,
+        Object::Authority(1) => 8,
+        Object::Authority(_) => 9,
+        Object::Pin(r) if is_admin(r) => 10,
+        Object::Pin(_) => 11,
+        Object::Range(0) => 12,
+        Object::Range(_) => 13,
         Object::MbrControl => 14,
         Object::Nothing => 0,
     }
 }
 
 // Whose PIN row an object is.
+#[tactic(auto, unfolding(model::specs::Access::self_of))]
 fn self_of(o: Object) -> usize
     ensures { result ≡ self_of o }
 {
     match o {
-        Object::Authority(r) => r as usize,
-        Object::Pin(r) => r as usize,
+        Object::Authority(r) | Object::Pin(r) => usize::from(r),
         _ => 0,
     }
 }
@@ -523,53 +492,38 @@ fn self_of(o: Object) -> usize
 fn is_proved(s: Session, r: usize) -> bool
     ensures { result ≡ proved_at s r }
 {
-    if r < PINS {
-        return s.proved[r];
-    }
-    false
+    r < PINS && s.proved[r]
 }
 
 // "Admins means any of Admin1-4 proved"
 fn any_admin(s: Session) -> bool
     ensures { result ≡ any_proved s 4 }
 {
-    let mut r = ADMINS as usize;
-    while 0 < r {
-        if s.proved[r] {
-            return true;
-        }
-        r -= 1;
-    }
-    false
+    s.proved[1..=usize::from(ADMINS)].iter().any(|on| *on)
 }
 
 // Whether the session has an authority of the class; row is the object's own.
+#[tactic(auto, unfolding(model::specs::Access::holds))]
 fn class_holds(s: Session, row: usize, who: u8) -> bool
     ensures { result ≡ holds s row who }
 {
-    if who == 0 {
-        return true;
+    match who {
+        0 => true,
+        1 => is_proved(s, 0),
+        2 => any_admin(s),
+        _ => is_proved(s, row),
     }
-    if who == 1 {
-        return is_proved(s, 0);
-    }
-    if who == 2 {
-        return any_admin(s);
-    }
-    is_proved(s, row)
 }
 
 // Whether the set has column c.
 pub fn has_column(columns: u32, c: u8) -> bool
     ensures { result ≡ has_column columns c }
 {
-    if c < 32 {
-        return (columns >> c) % 2 == 1;
-    }
-    false
+    c < 32 && (columns >> c) % 2 == 1
 }
 
 // What the rows for an object and a method say: that there is one, that one holds for the session, and the columns of those that hold.
+// The flags stay: a row that holds may have no columns, and an Option in an Option is no plainer.
 #[derive(Clone, Copy)]
 pub struct Found {
     pub listed: bool,
@@ -581,23 +535,16 @@ pub struct Found {
 fn with_row(s: Session, kind: u8, own: usize, m: u32, a: Access, f: Found) -> Found
     ensures { result ≡ with_row s kind own m a f }
 {
-    if a.kind != kind {
+    if a.kind != kind || a.method != m {
         return f;
     }
-    if a.method != m {
-        return f;
-    }
-    if class_holds(s, own, a.who) {
-        return Found {
-            listed: true,
-            held: true,
-            columns: a.columns | f.columns,
-        };
+    if !class_holds(s, own, a.who) {
+        return Found { listed: true, ..f };
     }
     Found {
         listed: true,
-        held: f.held,
-        columns: f.columns,
+        held: true,
+        columns: a.columns | f.columns,
     }
 }
 
@@ -613,10 +560,8 @@ pub fn look_up(s: Session, o: Object, m: u32) -> Found
         held: false,
         columns: 0,
     };
-    let mut i = COUNT;
-    while 0 < i {
-        i -= 1;
-        found = with_row(s, kind, own, m, rows[i], found);
+    for row in &rows {
+        found = with_row(s, kind, own, m, *row, found);
     }
     found
 }

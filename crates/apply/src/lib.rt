@@ -14,13 +14,11 @@ use ranges::Mbr;
 // ---- the PIN rows
 
 // With the public part of a PIN row put anew.
-fn put_row(c: Cells, r: usize, row: PinRow) -> Cells
+fn put_row(mut c: Cells, r: usize, row: PinRow) -> Cells
     ensures { result ≡ with_pins c (set c.pins r row) }
 {
     if r < PINS {
-        let mut x = c;
-        x.pins[r] = row;
-        return x;
+        c.pins[r] = row;
     }
     c
 }
@@ -28,38 +26,30 @@ fn put_row(c: Cells, r: usize, row: PinRow) -> Cells
 fn pin_row(c: Cells, r: usize) -> PinRow
     ensures { result ≡ pin_row_at c.pins r }
 {
-    if r < PINS {
-        return c.pins[r];
-    }
-    PinRow { tries: 0 }
+    c.pins.get(r).copied().unwrap_or(PinRow { tries: 0 })
 }
 
 // A wrong PIN counts.
 fn miss(c: Cells, r: usize) -> Cells
     ensures { result ≡ missed c r }
 {
-    let row = pin_row(c, r);
-    let counted = row.missed();
-    put_row(c, r, counted)
+    put_row(c, r, pin_row(c, r).missed())
 }
 
 // A right one, and a new one, clears the count.
 fn clear(c: Cells, r: usize) -> Cells
     ensures { result ≡ with_tries c r 0 }
 {
-    let row = pin_row(c, r);
-    let none = row.cleared();
-    put_row(c, r, none)
+    put_row(c, r, pin_row(c, r).cleared())
 }
 
+#[tactic(auto, unfolding(model::specs::Apply::cleared))]
 fn clear_who(c: Cells, who: Who) -> Cells
     ensures { result ≡ cleared c who }
 {
     match who {
-        Who::Unknown => c,
-        Who::Anybody => c,
-        Who::Class => c,
         Who::Row(r) => clear(c, r),
+        _ => c,
     }
 }
 
@@ -78,50 +68,45 @@ fn locking_tries(pins: [PinRow; PINS]) -> [PinRow; PINS]
 fn next_tsn(x: Tsn) -> Tsn
     ensures { result ≡ next_tsn x }
 {
-    if x.0 < 0xffffffff {
-        return Tsn(x.0 + 1);
-    }
-    Tsn(1)
+    Tsn(x.0.checked_add(1).unwrap_or(1))
 }
 
+#[tactic(auto, unfolding(model::specs::Apply::apply))]
 fn start(c: Cells, locking: bool, hsn: Hsn, who: Who) -> Cells
     ensures { result ≡ apply c (D.Started locking hsn who) }
 {
-    let tsn = c.next;
-    let nobody = [false; PINS];
     let opened = Session {
         live: true,
-        locking: locking,
-        tsn: tsn,
-        hsn: hsn,
-        proved: nobody,
+        locking,
+        tsn: c.next,
+        hsn,
+        proved: [false; PINS],
     };
-    let session = opened.proving(who);
-    let next = next_tsn(tsn);
-    let mut x = clear_who(c, who);
-    x.session = session;
-    x.next = next;
-    x
+    Cells {
+        session: opened.proving(who),
+        next: next_tsn(c.next),
+        ..clear_who(c, who)
+    }
 }
 
+#[tactic(auto, unfolding(model::specs::Apply::apply))]
 fn prove(c: Cells, who: Who) -> Cells
     ensures { result ≡ apply c (D.Proved who) }
 {
-    let old = c.session;
-    let session = old.proving(who);
-    let mut x = clear_who(c, who);
-    x.session = session;
-    x
+    Cells {
+        session: c.session.proving(who),
+        ..clear_who(c, who)
+    }
 }
 
 // No session is open, and nobody is proved.
 fn log_out(c: Cells) -> Cells
     ensures { result ≡ with_session c no_session }
 {
-    let none = fresh::no_session();
-    let mut x = c;
-    x.session = none;
-    x
+    Cells {
+        session: fresh::no_session(),
+        ..c
+    }
 }
 
 // ---- transactions
@@ -130,48 +115,45 @@ fn log_out(c: Cells) -> Cells
 pub fn settled_tables(c: Cells) -> Tables
     ensures { result ≡ settled_tables c }
 {
-    let u = c.undo;
-    if u.live {
-        return u.was;
-    }
-    c.tables
+    if c.undo.live { c.undo.was } else { c.tables }
 }
 
+#[tactic(auto, unfolding(model::specs::Apply::apply))]
 fn begin(c: Cells) -> Cells
     ensures { result ≡ apply c D.Began }
 {
-    let t = c.tables;
-    let copy = Undo { live: true, was: t };
-    let mut x = c;
-    x.undo = copy;
-    x
+    Cells {
+        undo: Undo {
+            live: true,
+            was: c.tables,
+        },
+        ..c
+    }
 }
 
-// With no transaction, and t the tables.
-fn close(c: Cells, t: Tables) -> Cells
-    ensures { result ≡ closed c t }
+// With no transaction, and these tables.
+fn close(c: Cells, tables: Tables) -> Cells
+    ensures { result ≡ closed c tables }
 {
-    let none = fresh::no_undo();
-    let mut x = c;
-    x.tables = t;
-    x.undo = none;
-    x
+    Cells {
+        tables,
+        undo: fresh::no_undo(),
+        ..c
+    }
 }
 
+#[tactic(auto, unfolding(model::specs::Apply::apply))]
 fn abandon(c: Cells) -> Cells
     ensures { result ≡ apply c D.Abandoned }
 {
-    let u = c.undo;
-    close(c, u.was)
+    close(c, c.undo.was)
 }
 
 // The session ends, "abandoning its transaction".
 fn end(c: Cells) -> Cells
     ensures { result ≡ ended c }
 {
-    let t = settled_tables(c);
-    let closed = close(c, t);
-    log_out(closed)
+    log_out(close(c, settled_tables(c)))
 }
 
 // ---- the changes
@@ -179,31 +161,24 @@ fn end(c: Cells) -> Cells
 fn edit_mbr(m: Mbr, e: MbrEdit) -> Mbr
     ensures { result ≡ edited_mbr m e }
 {
-    let enable = e.enable;
-    let done = e.done;
-    let done_on_program = e.done_on_program;
     Mbr {
-        enable: ranges::new_flag(m.enable, enable),
-        done: ranges::new_flag(m.done, done),
-        done_on_program: ranges::new_flag(m.done_on_program, done_on_program),
+        enable: e.enable.unwrap_or(m.enable),
+        done: e.done.unwrap_or(m.done),
+        done_on_program: e.done_on_program.unwrap_or(m.done_on_program),
     }
 }
 
-fn with_tables(c: Cells, t: Tables) -> Cells
-    ensures { result ≡ with_tables c t }
+fn with_tables(c: Cells, tables: Tables) -> Cells
+    ensures { result ≡ with_tables c tables }
 {
-    let mut x = c;
-    x.tables = t;
-    x
+    Cells { tables, ..c }
 }
 
-fn enable(t: Tables, r: usize, on: bool) -> Tables
+fn enable(mut t: Tables, r: usize, on: bool) -> Tables
     ensures { result ≡ with_enabled t r on }
 {
     if r < PINS {
-        let mut x = t;
-        x.enabled[r] = on;
-        return x;
+        t.enabled[r] = on;
     }
     t
 }
@@ -212,93 +187,64 @@ fn enable(t: Tables, r: usize, on: bool) -> Tables
 fn restore_locking(c: Cells) -> Cells
     ensures { result ≡ with_pins (with_tables c (restored_locking c.tables)) (locking_tries c.pins) }
 {
-    let t = fresh::restored_locking(c.tables);
-    let old = c.pins;
-    let pins = locking_tries(old);
-    let mut x = c;
-    x.tables = t;
-    x.pins = pins;
-    x
+    Cells {
+        tables: fresh::restored_locking(c.tables),
+        pins: locking_tries(c.pins),
+        ..c
+    }
 }
 
+#[tactic(auto, unfolding(model::specs::Apply::change))]
 fn restore_both(c: Cells) -> Cells
     ensures { result ≡ change c C.RevertAdmin }
 {
-    let t = fresh::factory_tables();
-    let pins = fresh::no_tries();
-    let mut x = c;
-    x.tables = t;
-    x.pins = pins;
-    log_out(x)
+    log_out(Cells {
+        tables: fresh::factory_tables(),
+        pins: fresh::no_tries(),
+        ..c
+    })
 }
 
+#[tactic(auto, unfolding(model::specs::Apply::change))]
 fn make(c: Cells, x: Change) -> Cells
     ensures { result ≡ change c x }
 {
+    let t = c.tables;
     match x {
         Change::Nothing => c,
-        Change::PutPin { row, at: _, len: _ } => clear(c, row),
-        Change::PutEnabled { row, on } => {
-            let t = enable(c.tables, row, on);
-            with_tables(c, t)
-        }
+        Change::PutPin { row, .. } => clear(c, row),
+        Change::PutEnabled { row, on } => with_tables(c, enable(t, row, on)),
         Change::PutRange { row, edit } => {
-            let mut t = c.tables;
-            let old = t.rows;
-            let rows = ranges::edited(old, row, edit);
-            t.rows = rows;
-            with_tables(c, t)
+            let rows = ranges::edited(t.rows, row, edit);
+            with_tables(c, Tables { rows, ..t })
         }
         Change::PutMbr(e) => {
-            let mut t = c.tables;
             let mbr = edit_mbr(t.mbr, e);
-            t.mbr = mbr;
-            with_tables(c, t)
+            with_tables(c, Tables { mbr, ..t })
         }
-        Change::PutResettable(on) => {
-            let mut t = c.tables;
-            t.resettable = on;
-            with_tables(c, t)
-        }
-        Change::Activate => {
-            let mut t = c.tables;
-            t.active = true;
-            with_tables(c, t)
-        }
+        Change::PutResettable(resettable) => with_tables(c, Tables { resettable, ..t }),
+        Change::Activate => with_tables(c, Tables { active: true, ..t }),
         Change::RevertLocking => restore_locking(c),
         Change::RevertAdmin => restore_both(c),
-        Change::RevertSp => {
-            let y = restore_locking(c);
-            log_out(y)
-        }
+        Change::RevertSp => log_out(restore_locking(c)),
     }
 }
 
 // What a decision does to the cells.
+#[tactic(auto, unfolding(model::specs::Apply::apply))]
 pub fn apply(c: Cells, d: Decision) -> Cells
     ensures { result ≡ apply c d }
 {
     match d {
-        Decision::Refuse(_) => c,
-        Decision::NotStarted(_) => c,
-        Decision::Missed(r) => miss(c, r),
+        Decision::Missed(r) | Decision::Mistaken(r) => miss(c, r),
         Decision::Started { locking, hsn, who } => start(c, locking, hsn, who),
-        Decision::Denied => c,
-        Decision::Mistaken(r) => miss(c, r),
         Decision::Proved(who) => prove(c, who),
-        Decision::Told {
-            object: _,
-            first: _,
-            last: _,
-        } => c,
         Decision::Done(x) => make(c, x),
         Decision::Began => begin(c),
-        Decision::BeganAlready => c,
         Decision::Committed => close(c, c.tables),
         Decision::Abandoned => abandon(c),
-        Decision::NoneOpen => c,
-        Decision::Ended => end(c),
-        Decision::Broke => end(c),
+        Decision::Ended | Decision::Broke => end(c),
+        _ => c,
     }
 }
 
@@ -308,34 +254,30 @@ pub fn apply(c: Cells, d: Decision) -> Cells
 fn relock(t: Tables) -> Tables
     ensures { result ≡ relocked t }
 {
-    let old = t.rows;
-    let rows = ranges::reset_rows(t.active, old);
-    let mbr = ranges::reset_mbr(t.active, t.mbr);
-    let mut x = t;
-    x.rows = rows;
-    x.mbr = mbr;
-    x
+    Tables {
+        rows: ranges::reset_rows(t.active, t.rows),
+        mbr: ranges::reset_mbr(t.active, t.mbr),
+        ..t
+    }
 }
 
 // TPER_RESET, where it is enabled.
 pub fn tper_reset(c: Cells) -> Cells
     ensures { result ≡ tper_reset c }
 {
-    let settled = settled_tables(c);
-    let t = relock(settled);
-    let mut x = end(c);
-    x.tables = t;
-    x
+    Cells {
+        tables: relock(settled_tables(c)),
+        ..end(c)
+    }
 }
 
 // A power cycle does the same, and starts Tries and TSNs anew.
 pub fn power_cycle(c: Cells) -> Cells
     ensures { result ≡ power_cycle c }
 {
-    let none = fresh::no_tries();
-    let first = Tsn(1);
-    let mut x = tper_reset(c);
-    x.pins = none;
-    x.next = first;
-    x
+    Cells {
+        pins: fresh::no_tries(),
+        next: Tsn(1),
+        ..tper_reset(c)
+    }
 }

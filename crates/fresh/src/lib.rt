@@ -28,20 +28,13 @@ fn no_rows() -> [Row; ROWS]
 pub fn restored_locking(t: Tables) -> Tables
     ensures { result ≡ restored_locking t }
 {
-    let rows = no_rows();
     let mut enabled = [false; PINS];
     enabled[0] = true;
     enabled[1] = true;
     Tables {
-        active: false,
-        rows: rows,
-        mbr: Mbr {
-            enable: false,
-            done: false,
-            done_on_program: false,
-        },
-        enabled: enabled,
+        enabled,
         resettable: t.resettable,
+        ..no_tables()
     }
 }
 
@@ -49,10 +42,9 @@ pub fn restored_locking(t: Tables) -> Tables
 pub fn no_tables() -> Tables
     ensures { result ≡ no_tables }
 {
-    let rows = no_rows();
     Tables {
         active: false,
-        rows: rows,
+        rows: no_rows(),
         mbr: Mbr {
             enable: false,
             done: false,
@@ -67,17 +59,15 @@ pub fn no_tables() -> Tables
 pub fn factory_tables() -> Tables
     ensures { result ≡ factory_tables }
 {
-    let t = no_tables();
-    restored_locking(t)
+    restored_locking(no_tables())
 }
 
 pub fn no_undo() -> Undo
     ensures { result ≡ no_undo }
 {
-    let t = no_tables();
     Undo {
         live: false,
-        was: t,
+        was: no_tables(),
     }
 }
 
@@ -124,25 +114,19 @@ pub fn factory_secrets(msid: [u8; PIN_BYTES]) -> [Secret; PINS]
 pub fn factory_card(n: u64, msid: [u8; PIN_BYTES]) -> Card
     ensures { result ≡ factory_card n msid }
 {
-    let tables = factory_tables();
-    let pins = no_tries();
-    let session = no_session();
-    let undo = no_undo();
-    let live = factory_secrets(msid);
-    let kept = no_secrets();
     Card {
         cells: Cells {
-            n: n,
-            msid: msid,
-            tables: tables,
-            pins: pins,
-            session: session,
+            n,
+            msid,
+            tables: factory_tables(),
+            pins: no_tries(),
+            session: no_session(),
             next: Tsn(1),
-            undo: undo,
+            undo: no_undo(),
         },
         vault: Vault {
-            live: live,
-            kept: kept,
+            live: factory_secrets(msid),
+            kept: no_secrets(),
         },
     }
 }

@@ -9,7 +9,8 @@ use lib.Seq.{take_all}
 use lib.Dec.{lit≤}
 use Rattle.image.specs.Write.{each_of, row_of, tables_of, tries_of, session_of, pin_of, head_of, undo_of, cells_of, vault_of, image_of}
 use Rattle.image.specs.Read.{bytes_at, row_at, ranges_at, tables_at, tries_at, session_at, pin_at, pins_at, card_at, flags_ok, ranges_ok, tables_ok, session_ok, image_ok}
-use Rattle.image.proofs.Arrays.{both, below_each}
+use Rattle.std.proofs.lemmas.Bool.{and_parts}
+use Rattle.image.proofs.Arrays.{below_each}
 use Rattle.image.proofs.Segments.{glue, run-one}
 use Rattle.image.proofs.Digits.{number-again}
 use Rattle.image.proofs.Lists.{each_again}
@@ -38,8 +39,8 @@ module _ (s : List ℕ) (byte : (i : ℕ) → get_or s i 0 < 256) where
   tables-again : (p : ℕ) → tables_ok s p ≡ true → p + 123 ≤ length s → tables_of (tables_at s p) ≡ bytes_at s p 123
   unfolding tables_of tables_at tables_ok
   tables-again p h fit =
-      let two = both (flags_ok s p 1 && ranges_ok s (p + 1)) (flags_ok s (p + 106) 17) h in
-      let one = both (flags_ok s p 1) (ranges_ok s (p + 1)) two.0 in
+      let two = and_parts (flags_ok s p 1 && ranges_ok s (p + 1)) (flags_ok s (p + 106) 17) h in
+      let one = and_parts (flags_ok s p 1) (ranges_ok s (p + 1)) two.0 in
       let ok : (q : ℕ) → p + 106 ≤ q → q < p + 106 + 17 → get_or s q 0 ≤ 1 = small s (p + 106) 17 two.1 in
       glue s p 122 1 _ _
       (glue s p 109 13 _ _
@@ -62,7 +63,7 @@ module _ (s : List ℕ) (byte : (i : ℕ) → get_or s i 0 < 256) where
   session-again : (p : ℕ) → session_ok s p ≡ true → p + 23 ≤ length s → session_of (session_at s p) ≡ bytes_at s p 23
   unfolding session_of session_at session_ok
   session-again p h fit =
-      let t = both (flags_ok s p 2) (flags_ok s (p + 10) 13) h in
+      let t = and_parts (flags_ok s p 2) (flags_ok s (p + 10) 13) h in
       let ok : (q : ℕ) → p ≤ q → q < p + 2 → get_or s q 0 ≤ 1 = small s p 2 t.0 in
       glue s p 10 13 _ _
       (glue s p 6 4 _ _

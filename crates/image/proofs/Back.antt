@@ -13,7 +13,8 @@ use Rattle.image.specs.Types.{Row, Tables, PinRow, Session, Secret, Card}
 use Rattle.image.specs.Write as W
 use Rattle.image.specs.Read as R
 use Rattle.image.specs.Laws.{Every, HeldRow, HeldTables, HeldSession, HeldPin, Held}
-use Rattle.image.proofs.Arrays.{all_true, and-true}
+use Rattle.std.proofs.lemmas.Bool.{and_from}
+use Rattle.image.proofs.Arrays.{all_true}
 use Rattle.image.proofs.Segments.{Stands, split, byte_at}
 use Rattle.image.proofs.Digits.{number-back}
 use Rattle.image.proofs.Lists.{part-stands, each_back}
@@ -62,7 +63,7 @@ module _ (s : List ℕ) (p : ℕ) where
   unfolding R.session_ok
   session-taken x h w =
       let t = session-parts s p x h w in
-      and-true (R.flags_ok s p 2) (R.flags_ok s (p + 10) 13)
+      and_from (R.flags_ok s p 2) (R.flags_ok s (p + 10) 13)
       (flags-taken s p 2 (x.live ∷ x.locking ∷ []) refl t.flags) (flags-taken s (p + 10) 13 x.proved h.proved t.proved)
 
   tries-back : (l : List PinRow) → length l ≡ 13 → Stands s p 13 (W.each_of W.tries_of l) → R.tries_at s p ≡ l
@@ -113,8 +114,8 @@ module _ (s : List ℕ) (p : ℕ) (t : Tables) (h : HeldTables t) (w : Stands s 
       let x = tables-parts s p t h w in
       let e₁ : p + 106 + 3 ≡ p + 109 = omega arith in
       let e₂ : p + 106 + 16 ≡ p + 122 = omega arith in
-      and-true (R.flags_ok s p 1 && R.ranges_ok s (p + 1)) (R.flags_ok s (p + 106) 17)
-      (and-true (R.flags_ok s p 1) (R.ranges_ok s (p + 1)) (flags-taken s p 1 (t.active ∷ []) refl x.active) (ranges-taken s (p + 1) t h x.rows))
+      and_from (R.flags_ok s p 1 && R.ranges_ok s (p + 1)) (R.flags_ok s (p + 106) 17)
+      (and_from (R.flags_ok s p 1) (R.ranges_ok s (p + 1)) (flags-taken s p 1 (t.active ∷ []) refl x.active) (ranges-taken s (p + 1) t h x.rows))
       (runs s (p + 106) 16 1
       (runs s (p + 106) 3 13 (flags-taken s (p + 106) 3 (mbr_flags t) refl x.mbr)
       (ap (λ (q : ℕ). R.flags_ok s q 13) e₁ ∙ flags-taken s (p + 109) 13 t.enabled h.enabled x.enabled))
@@ -147,9 +148,9 @@ module _ (k : Card) (h : Held k) (s : List ℕ) (w : Stands s 0 1188 (W.image_of
   unfolding R.head_ok
   head-taken e =
       let b : (i : ℕ) → i < 3 → get_or s i 0 ≡ get_or (1 ∷ 4 ∷ 8 ∷ []) i 0 = λ i l. byte_at s 0 3 (1 ∷ 4 ∷ 8 ∷ []) i i (cells-parts k h s w).counts (omega arith) l in
-      and-true (eqb (length s) 1188 && eqb (get_or s 0 0) 1 && eqb (get_or s 1 0) 4) (eqb (get_or s 2 0) 8)
-      (and-true (eqb (length s) 1188 && eqb (get_or s 0 0) 1) (eqb (get_or s 1 0) 4)
-      (and-true (eqb (length s) 1188) (eqb (get_or s 0 0) 1) (eq-eqb (length s) 1188 e) (eq-eqb (get_or s 0 0) 1 (b 0 (lit< tt))))
+      and_from (eqb (length s) 1188 && eqb (get_or s 0 0) 1 && eqb (get_or s 1 0) 4) (eqb (get_or s 2 0) 8)
+      (and_from (eqb (length s) 1188 && eqb (get_or s 0 0) 1) (eqb (get_or s 1 0) 4)
+      (and_from (eqb (length s) 1188) (eqb (get_or s 0 0) 1) (eq-eqb (length s) 1188 e) (eq-eqb (get_or s 0 0) 1 (b 0 (lit< tt))))
       (eq-eqb (get_or s 1 0) 4 (b 1 (lit< tt))))
       (eq-eqb (get_or s 2 0) 8 (b 2 (lit< tt)))
 
@@ -157,10 +158,10 @@ module _ (k : Card) (h : Held k) (s : List ℕ) (w : Stands s 0 1188 (W.image_of
   unfolding R.image_ok
   image-taken e =
       let c = cells-parts k h s w in
-      and-true (R.head_ok s && R.tables_ok s 43 && R.session_ok s 179 && R.flags_ok s 206 1) (R.tables_ok s 207)
-      (and-true (R.head_ok s && R.tables_ok s 43 && R.session_ok s 179) (R.flags_ok s 206 1)
-      (and-true (R.head_ok s && R.tables_ok s 43) (R.session_ok s 179)
-      (and-true (R.head_ok s) (R.tables_ok s 43) (head-taken e) (tables-taken s 43 k.cells.tables h.tables c.tables))
+      and_from (R.head_ok s && R.tables_ok s 43 && R.session_ok s 179 && R.flags_ok s 206 1) (R.tables_ok s 207)
+      (and_from (R.head_ok s && R.tables_ok s 43 && R.session_ok s 179) (R.flags_ok s 206 1)
+      (and_from (R.head_ok s && R.tables_ok s 43) (R.session_ok s 179)
+      (and_from (R.head_ok s) (R.tables_ok s 43) (head-taken e) (tables-taken s 43 k.cells.tables h.tables c.tables))
       (session-taken s 179 k.cells.session h.session c.session))
       (flags-taken s 206 1 (k.cells.undo.live ∷ []) refl c.undo))
       (tables-taken s 207 k.cells.undo.was h.was c.was)

@@ -1,12 +1,12 @@
 -- What the writers need: one part behind another, and a loop that writes the parts of a list.
-use Prim.Native.Nat.{ℕ, ◌+◌, ◌≤◌, ◌<◌}
+use Prim.Native.Nat.{ℕ, ◌+◌, ◌*◌, ◌≤◌, ◌<◌}
 use mathlib.Core.Path.{◌≡◌, refl, ap, sym, ◌∙◌}
-use mathlib.Core.List.{List, [], ◌∷◌, ◌++◌, map, append-nil, append_assoc}
-use native.Mathlib.Nat.{add-zero}
+use mathlib.Core.List.{List, [], ◌∷◌, ◌++◌, append-nil, append_assoc}
+use native.Mathlib.Nat.{add-zero, mul-zero, mul-le-mul_left}
 use native.Mathlib.Numerals.{add-one}
 use native.Mathlib.Omega.{arith}
-use lib.ListN.{length, get_or, take, drop, length-append, length-map, take-append-drop, drop_of_length-le}
-use lib.Seq.{take-suc, take_all}
+use lib.ListN.{length, get_or, take, drop, length-append, take-append-drop, drop_of_length-le}
+use lib.Seq.{take-suc}
 use Rattle.token.specs.Bytes.{over}
 use Rattle.token.proofs.Writes.{join, whole}
 use Rattle.image.specs.Write.{each_of, Put}
@@ -42,26 +42,23 @@ module _ {A : Type 0} (f : A → List ℕ) where
   each_more l i none h =
       sym (ap (λ (k : ℕ). each_of f (take k l)) (add-one i) ∙ ap (each_of f) (take-suc l i none h) ∙ each_snoc (take i l) (get_or l i none))
 
-  -- before the first turn, a turn that writes part i, and after the last
-  pub started : (d : List ℕ) (at : ℕ) (l : List A) → Put d at (each_of f (take 0 l)) 0 at d
+  -- before the first turn, and a turn that writes part i, which is x
+  pub started : (size : ℕ) (d : List ℕ) (at : ℕ) (l : List A) → Put d at (each_of f (take 0 l)) (size * 0) at d
   unfolding each_of
-  started d at l = put-none d at
+  started size d at l = sized d d [] at at 0 (size * 0) (sym (mul-zero size)) (put-none d at)
 
-  pub turned : (l : List A) (i m n size : ℕ) (none : A) (d x y : List ℕ) (at p r : ℕ) → i < length l → n ≡ m + size → Put d at (each_of f (take i l)) m p x
-      → Put x p (f (get_or l i none)) size r y → at + m ≤ length d → Put d at (each_of f (take (i + 1) l)) n r y
-  turned l i m n size none d x y at p r h e was now fit =
-      let b = behind d x y (each_of f (take i l)) (f (get_or l i none)) at p r m size was now fit in
-      rw (← each_more l i none h, e) b
-
-  pub finished : (l : List A) (i m n : ℕ) (d x : List ℕ) (at p : ℕ) → length l ≤ i → m ≡ n → Put d at (each_of f (take i l)) m p x → Put d at (each_of f l) n p x
-  finished l i m n d x at p h e w = rw (take_all i l h, e) at w
+  pub turned : (size : ℕ) (l : List A) (i : ℕ) (x : A) (d b y : List ℕ) (at p r : ℕ) → i < length l → x ≡ get_or l i x
+      → at + size * length l ≤ length d → Put d at (each_of f (take i l)) (size * i) p b → Put b p (f x) size r y
+      → Put d at (each_of f (take (i + 1) l)) (size * (i + 1)) r y
+  turned size l i x d b y at p r h e fit was now =
+      let n : size * (i + 1) ≡ size * i + size = omega arith in
+      let room : size * i ≤ size * length l = mul-le-mul_left size (omega arith) in
+      let parts : each_of f (take i l) ++ f x ≡ each_of f (take (i + 1) l) = ap (λ (v : A). each_of f (take i l) ++ f v) e ∙ each_more l i x h in
+      let all = behind d b y (each_of f (take i l)) (f x) at p r (size * i) size was now (omega arith) in
+      rw (← parts, n) all
 
 -- a write as long as the buffer leaves nothing of it
 pub filled : (d y bs : List ℕ) (n r : ℕ) → Put d 0 bs n r y → length d ≡ n → y ≡ bs
 filled d y bs n r w e =
     let l : length bs ≡ n = w.2 in
     whole d y bs n w.1 (sym l) ∙ ap (λ (t : List ℕ). bs ++ t) (drop_of_length-le d {i = n} (omega arith)) ∙ append-nil bs
-
--- the length of an array, whatever stands for its elements
-pub mapped : (X Y : Type 0) (f : X → Y) (l : List X) (n : ℕ) → length (map f l) ≡ n → length l ≡ n
-mapped X Y f l n p = sym (length-map l f) ∙ p

@@ -10,7 +10,7 @@ use Rattle.ranges.specs.Row.{row_count}
 use Rattle.model.specs.Record.{user_count}
 use Rattle.image.specs.Write.{image_length}
 use Rattle.image.specs.Read.{flags_ok, tables_ok, session_ok, head_ok, image_ok}
-use Rattle.image.proofs.Arrays.{both}
+use Rattle.std.proofs.lemmas.Bool.{and_parts}
 
 pub record Head (s : List ℕ) : Type 0 where
   pub length : length s ≡ image_length
@@ -21,9 +21,9 @@ pub record Head (s : List ℕ) : Type 0 where
 pub head-taken : (s : List ℕ) → head_ok s ≡ true → Head s
 unfolding head_ok
 head-taken s h =
-    let three = both (eqb (length s) image_length && eqb (get_or s 0 0) 1 && eqb (get_or s 1 0) (row_count - 1)) (eqb (get_or s 2 0) user_count) h in
-    let two = both (eqb (length s) image_length && eqb (get_or s 0 0) 1) (eqb (get_or s 1 0) (row_count - 1)) three.0 in
-    let one = both (eqb (length s) image_length) (eqb (get_or s 0 0) 1) two.0 in
+    let three = and_parts (eqb (length s) image_length && eqb (get_or s 0 0) 1 && eqb (get_or s 1 0) (row_count - 1)) (eqb (get_or s 2 0) user_count) h in
+    let two = and_parts (eqb (length s) image_length && eqb (get_or s 0 0) 1) (eqb (get_or s 1 0) (row_count - 1)) three.0 in
+    let one = and_parts (eqb (length s) image_length) (eqb (get_or s 0 0) 1) two.0 in
     record {
       length = eqb-true (length s) image_length one.0;
       version = eqb-true (get_or s 0 0) 1 one.1;
@@ -41,8 +41,15 @@ pub record Taken (s : List ℕ) : Type 0 where
 pub taken : (s : List ℕ) → image_ok s ≡ true → Taken s
 unfolding image_ok
 taken s h =
-    let four = both (head_ok s && tables_ok s 43 && session_ok s 179 && flags_ok s 206 1) (tables_ok s 207) h in
-    let three = both (head_ok s && tables_ok s 43 && session_ok s 179) (flags_ok s 206 1) four.0 in
-    let two = both (head_ok s && tables_ok s 43) (session_ok s 179) three.0 in
-    let one = both (head_ok s) (tables_ok s 43) two.0 in
+    let four = and_parts (head_ok s && tables_ok s 43 && session_ok s 179 && flags_ok s 206 1) (tables_ok s 207) h in
+    let three = and_parts (head_ok s && tables_ok s 43 && session_ok s 179) (flags_ok s 206 1) four.0 in
+    let two = and_parts (head_ok s && tables_ok s 43) (session_ok s 179) three.0 in
+    let one = and_parts (head_ok s) (tables_ok s 43) two.0 in
     record { head = head-taken s one.0; tables = one.1; session = two.1; undo = three.1; was = four.1 }
+
+-- the length of bytes whose head is taken, and of an image that is
+pub head_length : (s : List ℕ) → head_ok s ≡ true → length s ≡ image_length
+head_length s h = (head-taken s h).length
+
+pub taken_length : (s : List ℕ) → image_ok s ≡ true → length s ≡ image_length
+taken_length s h = (taken s h).head.length

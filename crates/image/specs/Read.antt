@@ -1,10 +1,9 @@
 -- The record that an image holds, by the places of docs/IMAGE.md, and which images are taken.
-use Rattle.std.specs.Prelude.{ℕ, zero, suc, ◌+◌, ◌-◌, ◌*◌, Bool, true, false, ◌&&◌, cond, List, [], ◌∷◌, ◌++◌, length, get_or, take, drop, leb, eqb}
+use Rattle.std.specs.Prelude.{ℕ, zero, suc, ◌+◌, ◌-◌, ◌*◌, Bool, true, ◌&&◌, cond, List, [], ◌∷◌, ◌++◌, length, get_or, take, drop, leb, eqb, Option, Some, None}
 use Rattle.token.specs.Bytes.{number_at}
 use Rattle.ranges.specs.Row.{row_count}
 use Rattle.image.specs.Types.{Row, Mbr, Tables, PinRow, Session, Secret, Card}
-use Rattle.model.specs.Record.{user_count, pin_count, pin_bytes, no_card}
-use Rattle.image.specs.declared.Loaded.{Loaded}
+use Rattle.model.specs.Record.{user_count, pin_count, pin_bytes}
 use Rattle.image.specs.Write.{image_length}
 
 -- f 0, f 1 and so on, n of them
@@ -110,6 +109,6 @@ head_ok s = eqb (length s) image_length && eqb (get_or s 0 0) 1 && eqb (get_or s
 unfoldable pub image_ok : List ℕ → Bool
 image_ok s = head_ok s && tables_ok s 43 && session_ok s 179 && flags_ok s 206 1 && tables_ok s 207
 
--- what is read of any bytes
-unfoldable pub loaded_of : List ℕ → Loaded
-loaded_of s = cond (image_ok s) (record { ok = true; card = card_at s }) (record { ok = false; card = no_card })
+-- what is read of any bytes: the record, where the image is taken
+unfoldable pub loaded_of : List ℕ → Option Card
+loaded_of s = cond (image_ok s) (Some (card_at s)) None

@@ -1,4 +1,5 @@
 -- Where a PIN is compared, for which row and on what cells, and that nothing else rests on a PIN: the methods walked once.
+use Rattle.std.specs.Prelude.{Option, Some, None, Result, Ok, Err}
 use Prim.Native.Nat.{ℕ, ◌<◌}
 use mathlib.Core.Path.{◌≡◌, refl, ap}
 use mathlib.Core.Bool.{Bool, true, false, ◌||◌, cond}
@@ -11,14 +12,12 @@ use Rattle.value.specs.Value.{Values}
 use Rattle.value.specs.Read.{Out}
 use Rattle.item.specs.declared.Slot.{Slot}
 use Rattle.params.specs.declared.Columns.{Columns}
+use Rattle.params.specs.declared.Offence.{Offence}
 use Rattle.params.specs.declared.Block.{Block}
-use Rattle.params.specs.declared.Block.TheVariants as B
 use Rattle.params.specs.declared.Start.{Start}
-use Rattle.params.specs.declared.Start.TheVariants as T
 use Rattle.params.specs.declared.Proof.{Proof}
-use Rattle.params.specs.declared.Proof.TheVariants as X
 use Rattle.params.specs.Names.{given}
-use Rattle.params.specs.Params.{no_columns, no_start, no_proof, set_of, start_of, proof_of}
+use Rattle.params.specs.Params.{no_columns, set_of, start_of, proof_of}
 use Rattle.model.specs.Types.{Tsn, Hsn, Cells, Object, Who, Change, Decision, Judged}
 use Rattle.model.specs.declared.Who.TheVariants as W
 use Rattle.model.specs.declared.Change.TheVariants as C
@@ -99,8 +98,8 @@ pub data AsksHeard (c : Cells) (G : ℕ → List ℕ → Type 0) (H : List ℕ �
   taken : {tsn : Tsn} {hsn : Hsn} {s : List ℕ} {j : Judged} → Asks c (λ r p n. G r (part s p n)) (H s) j → AsksHeard c G H (Z.judged tsn hsn s j)
 
 -- a StartSession as far as its SP
-pub record Begun (c : Cells) (a : Start) (hsn : Hsn) (sp : ℕ) (x who : Slot) : Type 0 where
-  pub asked : a ≡ T.Asked hsn sp 1 x who
+pub record Begun (c : Cells) (a : Option Start) (hsn : Hsn) (sp : ℕ) (x who : Slot) : Type 0 where
+  pub asked : a ≡ Some (record { hsn = hsn; sp = sp; write = 1; challenge = x; authority = who })
   pub known : (eqb sp U.admin_sp || eqb sp U.locking_sp) ≡ true
   pub on : imp (eqb sp U.locking_sp) c.tables.active ≡ true
 
@@ -127,17 +126,21 @@ module _ (c : Cells) where
         h r refl (record { there = k.there; enabled = on; few = ltb-true _ _ t })
 
     -- ---- on 0, 0
-    judge-start : (s : List ℕ) (a : Start) → c.session.live ≡ false
+    judge-start : (s : List ℕ) (a : Option Start) → c.session.live ≡ false
         → ((hsn : Hsn) (sp : ℕ) (x who : Slot) → Begun c a hsn sp x who
         → ((w : Who) → H (D.Started (eqb sp U.locking_sp) hsn w))
         × ((r : ℕ) → leb (J.count_of x) R.pin_bytes ≡ true → J.signer s (eqb sp U.locking_sp) who ≡ W.Row r → F r (J.place_of x) (J.count_of x)))
         → Asks c F H (J.judge_start c s a)
     unfolding J.judge_start
-    judge-start s T.Broken none f = plain tt (free _ tt)
-    judge-start s (T.Asked hsn sp write x who) none f =
+    judge-start s None none f = plain tt (free _ tt)
+    judge-start s (Some a) none f =
+        let hsn = a.hsn in
+        let sp = a.sp in
+        let x = a.challenge in
+        let who = a.authority in
         need-ind (Asks c F H) _ _ _ (plain tt (free _ tt)) λ known. need-ind (Asks c F H) _ _ _ (plain tt (free _ tt)) λ on.
         need-ind (Asks c F H) _ _ _ (plain tt (free _ tt)) λ one.
-        let g = f hsn sp x who (record { asked = ap (λ y. T.Asked hsn sp y x who) (eqb-true write 1 one); known = known; on = on }) in
+        let g = f hsn sp x who (record { asked = ap (λ (y : ℕ). Some (record { hsn = hsn; sp = sp; write = y; challenge = x; authority = who })) (eqb-true a.write 1 one); known = known; on = on }) in
         need-ind (Asks c F H) _ _ _ (plain tt (free _ tt)) λ _. need-ind (Asks c F H) _ _ _ (plain tt (free _ tt)) λ _.
         need-ind (Asks c F H) _ _ _ (plain tt (free _ tt)) λ short.
         judge-who _ x (L.signer-known s (eqb sp U.locking_sp) who) (plain tt (free _ tt)) (plain tt (free _ tt)) (plain tt (g.0 W.Anybody))
@@ -145,7 +148,7 @@ module _ (c : Cells) where
 
     pub judge-manager : (s : List ℕ) (object method : ℕ) (vs : Out Values)
         → (object ≡ U.manager_uid → method ≡ U.start_session → c.session.live ≡ false
-        → (hsn : Hsn) (sp : ℕ) (x who : Slot) → Begun c (given no_start (start_of s) vs) hsn sp x who
+        → (hsn : Hsn) (sp : ℕ) (x who : Slot) → Begun c (given None (start_of s) vs) hsn sp x who
         → ((w : Who) → H (D.Started (eqb sp U.locking_sp) hsn w))
         × ((r : ℕ) → leb (J.count_of x) R.pin_bytes ≡ true → J.signer s (eqb sp U.locking_sp) who ≡ W.Row r → F r (J.place_of x) (J.count_of x)))
         → Asks c F H (J.judge_manager c s object method vs)
@@ -156,27 +159,31 @@ module _ (c : Cells) where
         judge-start s _ (not-true _ none) (f (eqb-true _ _ is.0) (eqb-true _ _ is.1) (not-true _ none))
 
     -- ---- in the session
-    judge-proof : (s : List ℕ) (a : Proof) → c.session.live ≡ true
-        → ((who : ℕ) (x : Slot) (r : ℕ) → a ≡ X.Asked who x → leb (J.count_of x) R.pin_bytes ≡ true → U.who_in c.session.locking who ≡ W.Row r
+    judge-proof : (s : List ℕ) (a : Option Proof) → c.session.live ≡ true
+        → ((who : ℕ) (x : Slot) (r : ℕ) → a ≡ Some (record { authority = who; proof = x }) → leb (J.count_of x) R.pin_bytes ≡ true → U.who_in c.session.locking who ≡ W.Row r
         → F r (J.place_of x) (J.count_of x))
         → Asks c F H (J.judge_proof c s a)
     unfolding J.judge_proof
-    judge-proof s X.Broken live f = plain tt (free _ tt)
-    judge-proof s (X.Asked who x) live f =
+    judge-proof s None live f = plain tt (free _ tt)
+    judge-proof s (Some a) live f =
+        let who = a.authority in
+        let x = a.proof in
         need-ind (Asks c F H) _ _ _ (plain tt (free _ tt)) λ _. need-ind (Asks c F H) _ _ _ (plain tt (free _ tt)) λ short.
         judge-who _ x (L.who-known c.session.locking who) (plain tt (free _ tt)) (plain tt (free _ tt)) (plain tt (free _ tt))
         (λ r e ready. proves live ready (f who x r refl short e) (free _ tt) (free _ tt))
 
-    judge-get : (o : Object) (a : Block) → Asks c F H (J.judge_get o a)
+    judge-get : (o : Object) (a : Option Block) → Asks c F H (J.judge_get o a)
     unfolding J.judge_get
-    judge-get o B.Broken = plain tt (free _ tt)
-    judge-get o (B.Of start end) = need-ind (Asks c F H) _ _ _ (plain tt (free _ tt)) λ _. need-ind (Asks c F H) _ _ _ (plain tt (free _ tt)) λ _. plain tt (free _ tt)
+    judge-get o None = plain tt (free _ tt)
+    judge-get o (Some b) = need-ind (Asks c F H) _ _ _ (plain tt (free _ tt)) λ _. need-ind (Asks c F H) _ _ _ (plain tt (free _ tt)) λ _. plain tt (free _ tt)
 
-    judge-set : (s : List ℕ) (o : Object) (t : Columns) → H (D.Done (J.change_in s t o)) → Asks c F H (J.judge_set c s o t)
+    judge-set : (s : List ℕ) (o : Object) (x : Result Columns Offence) → ((t : Columns) → x ≡ Ok t → H (D.Done (J.change_in s t o)))
+        → Asks c F H (J.judge_set c s o x)
     unfolding J.judge_set
-    judge-set s o t h =
-        need-ind (Asks c F H) _ _ _ (plain tt (free _ tt)) λ _. need-ind (Asks c F H) _ _ _ (plain tt (free _ tt)) λ _. need-ind (Asks c F H) _ _ _ (plain tt (free _ tt)) λ _.
-        need-ind (Asks c F H) _ _ _ (plain tt (free _ tt)) λ _. plain tt h
+    judge-set s o (Err e) h = plain tt (free _ tt)
+    judge-set s o (Ok t) h =
+        need-ind (Asks c F H) _ _ _ (plain tt (free _ tt)) λ _. need-ind (Asks c F H) _ _ _ (plain tt (free _ tt)) λ _.
+        need-ind (Asks c F H) _ _ _ (plain tt (free _ tt)) λ _. plain tt (h t refl)
 
     judge-bare : (o : Object) (m : ℕ) (bare : Bool) (x : Change) → H (D.Done x) → Asks c F H (J.judge_bare c o m bare x)
     unfolding J.judge_bare
@@ -185,9 +192,9 @@ module _ (c : Cells) where
 
     -- m is the method, of those that o has; what follows is said of each
     pub judge-method : (s : List ℕ) (o : Object) (m : ℕ) (vs : Out Values) → c.session.live ≡ true
-        → (in_table c.session o m ≡ true → m ≡ U.authenticate_method → (who : ℕ) (x : Slot) (r : ℕ) → given no_proof (proof_of s) vs ≡ X.Asked who x
+        → (in_table c.session o m ≡ true → m ≡ U.authenticate_method → (who : ℕ) (x : Slot) (r : ℕ) → given None (proof_of s) vs ≡ Some (record { authority = who; proof = x })
         → leb (J.count_of x) R.pin_bytes ≡ true → U.who_in c.session.locking who ≡ W.Row r → F r (J.place_of x) (J.count_of x))
-        → (m ≡ U.set_method → H (D.Done (J.change_in s (given no_columns set_of vs) o)))
+        → (m ≡ U.set_method → (t : Columns) → given no_columns set_of vs ≡ Ok t → H (D.Done (J.change_in s t o)))
         → (m ≡ U.activate_method → H (D.Done (J.activate_on c.tables)))
         → (m ≡ U.revert_method → H (D.Done (J.revert_of o)))
         → (in_table c.session o m ≡ true → Last m → H (D.Done C.RevertSp))

@@ -1,4 +1,5 @@
 -- What is decided of a call, on 0, 0 and in the session: the first fault that applies, or none.
+use Rattle.std.specs.Prelude.{Option, Some, None}
 use Prim.Native.Nat.{ℕ, ◌+◌, ◌≤◌, ◌<◌}
 use mathlib.Core.Path.{◌≡◌, refl, sym, ap, subst}
 use mathlib.Core.Bool.{Bool, true, false, not, ◌&&◌, true≢false}
@@ -13,12 +14,10 @@ use Rattle.value.specs.Value.{Values}
 use Rattle.value.specs.Read.{Out}
 use Rattle.item.specs.declared.Slot.{Slot}
 use Rattle.params.specs.declared.Start.{Start}
-use Rattle.params.specs.declared.Start.TheVariants as T
 use Rattle.params.specs.declared.Proof.{Proof}
-use Rattle.params.specs.declared.Proof.TheVariants as P
 use Rattle.params.specs.Names.{given}
 use Rattle.params.specs.Columns.{free}
-use Rattle.params.specs.Params.{no_block, no_columns, no_start, no_proof, get_of, set_of, start_of, proof_of}
+use Rattle.params.specs.Params.{no_columns, get_of, set_of, start_of, proof_of}
 use Rattle.model.specs.Types.{Hsn, Session, Cells, Card, Object, Who, Status, Decision, Judged}
 use Rattle.model.specs.declared.Object.TheVariants as O
 use Rattle.model.specs.declared.Who.TheVariants as W
@@ -86,20 +85,25 @@ ends locking hsn = record {
 
 module _ (k : Card) (s : List ℕ) (sound : SoundRecord k) where
   -- ---- StartSession
-  abbrev Begun : Start → Decision → Type 0
+  abbrev Begun : Option Start → Decision → Type 0
   Begun x d = let e = started k.cells d in Ruled (N.start_faults k s x) e.refused (e.refused 0x01) (e.wrong (K.signer s x)) (K.started_by e s x)
 
   signed : (locking : Bool) (x : Slot) → Rowed (N.signs s locking x)
   signed locking x = rowed (subst (L.KnownWho locking) (F.signs-same s locking x) (L.signer-known s locking x))
 
-  starts : (x : Start) → Begun x (of k s (J.need (not k.cells.session.live) (D.NotStarted E.NoSessions) (J.judge_start k.cells s x)))
+  starts : (x : Option Start) → Begun x (of k s (J.need (not k.cells.session.live) (D.NotStarted E.NoSessions) (J.judge_start k.cells s x)))
   unfolding J.judge_start decided status_number
-  starts T.Broken =
-      look (λ j. Begun T.Broken (of k s j)) _ _ _ (F.not-not _ (dec-on k.cells.session.live)) (λ f. idle (inl (f, not-started E.NoSessions))) λ h.
+  starts None =
+      look (λ j. Begun None (of k s j)) _ _ _ (F.not-not _ (dec-on k.cells.session.live)) (λ f. idle (inl (f, not-started E.NoSessions))) λ h.
       idle (inr (h, inl (tt, not-started E.InvalidParameter)))
-  starts (T.Asked hsn sp write challenge authority) =
+  starts (Some t) =
+      let hsn = t.hsn in
+      let sp = t.sp in
+      let write = t.write in
+      let challenge = t.challenge in
+      let authority = t.authority in
       let locking = eqb sp U.locking_sp in
-      let G : Judged → Type 0 = λ j. Begun (T.Asked hsn sp write challenge authority) (of k s j) in
+      let G : Judged → Type 0 = λ j. Begun (Some t) (of k s j) in
       let bad = not-started E.InvalidParameter in
       look G _ _ _ (F.not-not _ (dec-on k.cells.session.live)) (λ f. idle (inl (f, not-started E.NoSessions))) λ h.
       look G _ _ _ (F.not-or (eqb sp U.admin_sp) (eqb sp U.locking_sp) (F.not-eq sp U.admin_sp) (F.not-eq sp U.locking_sp)) (λ f. idle (inr (h, inl (inl f, bad)))) λ a.
@@ -132,27 +136,29 @@ module _ (k : Card) (s : List ℕ) (sound : SoundRecord k) where
     other = λ n.
         look (λ j. of k s j ≡ D.Refuse E.NotAuthorized) (eqb object 0xff && eqb method 0xff02) _ _
         (dec-not _ (dec-and _ _ (dec-eq object 0xff) (dec-eq method 0xff02))) (λ _. refl) (λ p. absurd (p n));
-    start = λ e f. rw e (rw f (starts (given no_start (start_of s) vs)));
+    start = λ e f. rw e (rw f (starts (given None (start_of s) vs)));
   }
 
   module _ (o : Object) where
     -- ---- Authenticate
-    abbrev Proved : Proof → Decision → Type 0
+    abbrev Proved : Option Proof → Decision → Type 0
     Proved x d =
         let e = decision k.cells s o d in
         let w = K.prover k.cells.session.locking x in
         Ruled (N.proof_faults k s o x) e.refused e.denied (e.wrong w) (e.proved w)
 
-    proves : (x : Proof) → Decides (in_table k.cells.session o 0x1c) (Has k.cells.session o 0x1c)
+    proves : (x : Option Proof) → Decides (in_table k.cells.session o 0x1c) (Has k.cells.session o 0x1c)
         → Proved x (of k s (J.need (in_table k.cells.session o 0x1c) (D.Refuse E.NotAuthorized) (J.judge_proof k.cells s x)))
     unfolding J.judge_proof decided
-    proves P.Broken pair =
-        look (λ j. Proved P.Broken (of k s j)) _ _ _ (dec-not _ pair) (λ n. inl (n, unauthorised)) λ h.
+    proves None pair =
+        look (λ j. Proved None (of k s j)) _ _ _ (dec-not _ pair) (λ n. inl (n, unauthorised)) λ h.
         inr (h, idle (inl (tt, invalid)))
-    proves (P.Asked authority proof) pair =
+    proves (Some p) pair =
+        let authority = p.authority in
+        let proof = p.proof in
         let w = U.who_in k.cells.session.locking authority in
         let named : Rowed w = rowed (L.who-known k.cells.session.locking authority) in
-        let G : Judged → Type 0 = λ j. Proved (P.Asked authority proof) (of k s j) in
+        let G : Judged → Type 0 = λ j. Proved (Some p) (of k s j) in
         look G _ _ _ (dec-not _ pair) (λ n. inl (n, unauthorised)) λ h.
         look G _ _ _ (F.not_known w) (λ f. inr (h, idle (inl (inl f, invalid)))) λ u.
         look G _ _ _ (F.not_short proof) (λ f. inr (h, idle (inl (inr f, invalid)))) λ v.
@@ -263,10 +269,10 @@ module _ (k : Card) (s : List ℕ) (sound : SoundRecord k) (object : ℕ) where
   on-object method vs =
       let pair = access-as-said.pairs k.cells.session object in
       record {
-        get = λ e. rw e (got k s here (given no_block get_of vs) (pair 0x16));
+        get = λ e. rw e (got k s here (given None get_of vs) (pair 0x16));
         set = λ e. rw e (put k s here (given no_columns set_of vs) (pair 0x17) (access-as-said.sets k.cells.session object)
             (λ i f. let l : i < 5 = range-there _ object i f in omega (arith, sound.tables.rows)));
-        authenticate = λ e. rw e (proves k s sound here (given no_proof (proof_of s) vs) (pair 0x1c));
+        authenticate = λ e. rw e (proves k s sound here (given None (proof_of s) vs) (pair 0x1c));
         activate = λ e. rw e (bare k s here 0x203 vs _ _ (pair 0x203) (λ h. may-activate _ here (placed 0x203 h)));
         revert = λ e. rw e (bare k s here 0x202 vs _ _ (pair 0x202) (λ h. may-revert _ here (placed 0x202 h)));
         revert_sp = λ e. rw e (bare k s here 0x11 vs _ _ (pair 0x11) (λ h. may-revert-sp _ here (placed 0x11 h)));

@@ -1,4 +1,5 @@
 -- Whatever is answered came as a call on 0, 0, or as a payload of the open session.
+use Rattle.std.specs.Prelude.{Option, Some, None}
 use Prim.Native.Nat.{ℕ, ◌+◌, ◌≤◌}
 use mathlib.Core.Path.{◌≡◌, refl, sym, ap}
 use mathlib.Core.Bool.{Bool, true, false, true≢false}
@@ -6,8 +7,7 @@ use mathlib.Core.List.{List}
 use mathlib.Core.Logic.{◌⊎◌, inl, inr, ⊎_elim}
 use native.Mathlib.Omega.{arith}
 use lib.ListN.{length, take}
-use Rattle.packet.specs.declared.Opened.{Opened}
-use Rattle.packet.specs.declared.Opened.TheVariants as O
+use Rattle.packet.specs.declared.Packet.{Packet}
 use Rattle.packet.specs.Envelope.{opened_of}
 use Rattle.payload.specs.declared.Payload.{Payload}
 use Rattle.payload.specs.declared.Payload.TheVariants as P
@@ -47,8 +47,12 @@ either false true x y f = inr (y.holds refl)
 either false false x y f = absurd (f (x.fails refl, y.fails refl))
 
 module _ (k : Card) (room : ℕ) (s : List ℕ) (z : (command k room s).number ≡ 0) where
-  by-opened : (x : Opened) → opened_of s ≡ x → Heard k room s
-  by-opened (O.Packet t h a l) e =
+  by-opened : (x : Option Packet) → opened_of s ≡ x → Heard k room s
+  by-opened (Some q) e =
+      let t = q.tsn in
+      let h = q.hsn in
+      let a = q.start in
+      let l = q.len in
       let r1 = answered z (omega arith) (numbers-in-order.packets k room s) in
       let r2 = answered z (omega arith) r1.1 in
       let r3 = answered z (omega arith) r2.1 in
@@ -71,7 +75,7 @@ module _ (k : Card) (room : ℕ) (s : List ℕ) (z : (command k room s).number �
         ⊎_elim (λ q. inl (q.0, q.1, a_call p (λ f. r6.0 (q.0, q.1, f)))) inr
             (either _ _ (dec-and _ _ (dec-eq t.0 0) (dec-eq h.0 0)) (session-decides k t h) r5.0),
       )
-  by-opened O.Broken e =
+  by-opened None e =
       let r1 = answered z (omega arith) (numbers-in-order.packets k room s) in
       let r2 = answered z (omega arith) r1.1 in
       let r3 = answered z (omega arith) r2.1 in

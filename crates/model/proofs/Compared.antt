@@ -1,4 +1,5 @@
 -- A StartSession and an Authenticate for a row that is enabled and has a try left have its PIN compared.
+use Rattle.std.specs.Prelude.{Some, None}
 use Prim.Native.Nat.{ℕ, ◌+◌, ◌≤◌, ◌<◌}
 use mathlib.Core.Path.{◌≡◌, refl, sym, ◌∙◌, ap, subst}
 use mathlib.Core.Bool.{Bool, true, false, not, ◌&&◌, ◌||◌, true≢false}
@@ -11,18 +12,15 @@ use lib.Dec.{leb, ltb, eqb}
 use Rattle.ranges.specs.Decides.{imp}
 use Rattle.ranges.proofs.Decide.{is_true, is_false}
 use Rattle.token.specs.Bytes.{within}
-use Rattle.packet.specs.declared.Opened.TheVariants as N
 use Rattle.packet.specs.Envelope.{opened_of}
 use Rattle.payload.specs.Payload.{payload_at}
 use Rattle.value.specs.Value.{Values}
 use Rattle.value.specs.Read.{Out}
 use Rattle.item.specs.declared.Slot.{Slot}
 use Rattle.item.specs.declared.Slot.TheVariants as S
-use Rattle.params.specs.declared.Start.TheVariants as T
-use Rattle.params.specs.declared.Proof.TheVariants as X
 use Rattle.params.specs.Names.{given, uid_of}
 use Rattle.params.specs.Columns.{free}
-use Rattle.params.specs.Params.{no_start, no_proof, start_of, proof_of}
+use Rattle.params.specs.Params.{start_of, proof_of}
 use Rattle.model.specs.Types.{Tsn, Hsn, Cells, Card, Decision, Judged}
 use Rattle.model.specs.declared.Object.TheVariants as O
 use Rattle.model.specs.declared.Who.TheVariants as W
@@ -64,7 +62,7 @@ module _ (c : Cells) (r : ℕ) (enabled : R.enabled_at c.tables r ≡ true) (few
 
   judge-start : (s : List ℕ) (host : Hsn) (sp : ℕ) (x who : Slot) → (eqb sp U.admin_sp || eqb sp U.locking_sp) ≡ true
       → imp (eqb sp U.locking_sp) c.tables.active ≡ true → (Over32 x → ⊥) → U.who_in (eqb sp U.locking_sp) (uid_of s who) ≡ W.Row r
-      → J.judge_start c s (T.Asked host sp 1 x who) ≡ Compare r (J.place_of x) (J.count_of x) (D.Started (eqb sp U.locking_sp) host (W.Row r)) (D.Missed r)
+      → J.judge_start c s (Some (record { hsn = host; sp = sp; write = 1; challenge = x; authority = who })) ≡ Compare r (J.place_of x) (J.count_of x) (D.Started (eqb sp U.locking_sp) host (W.Row r)) (D.Missed r)
   unfolding J.judge_start J.need J.signer J.known free uid_of
   judge-start s host sp x S.Absent known on short names = unknown-not r (sym (none_named _) ∙ names)
   judge-start s host sp x (S.Int v) known on short names = unknown-not r (sym (none_named _) ∙ names)
@@ -73,12 +71,12 @@ module _ (c : Cells) (r : ℕ) (enabled : R.enabled_at c.tables r ≡ true) (few
   judge-start s host sp x S.Named known on short names = unknown-not r (sym (none_named _) ∙ names)
 
   judge-proof : (s : List ℕ) (who : ℕ) (x : Slot) → (Over32 x → ⊥) → U.who_in c.session.locking who ≡ W.Row r
-      → J.judge_proof c s (X.Asked who x) ≡ Compare r (J.place_of x) (J.count_of x) (D.Proved (W.Row r)) (D.Mistaken r)
+      → J.judge_proof c s (Some (record { authority = who; proof = x })) ≡ Compare r (J.place_of x) (J.count_of x) (D.Proved (W.Row r)) (D.Mistaken r)
   unfolding J.judge_proof J.need J.known
   judge-proof s who x short names = rw (names, short-enough x short) (judge-who _ x)
 
   judge-manager : (s : List ℕ) (vs : Out Values) (host : Hsn) (sp : ℕ) (x who : Slot) → c.session.live ≡ false
-      → given no_start (start_of s) vs ≡ T.Asked host sp 1 x who → (eqb sp U.admin_sp || eqb sp U.locking_sp) ≡ true
+      → given None (start_of s) vs ≡ Some (record { hsn = host; sp = sp; write = 1; challenge = x; authority = who }) → (eqb sp U.admin_sp || eqb sp U.locking_sp) ≡ true
       → imp (eqb sp U.locking_sp) c.tables.active ≡ true → (Over32 x → ⊥) → U.who_in (eqb sp U.locking_sp) (uid_of s who) ≡ W.Row r
       → J.judge_manager c s U.manager_uid U.start_session vs
       ≡ Compare r (J.place_of x) (J.count_of x) (D.Started (eqb sp U.locking_sp) host (W.Row r)) (D.Missed r)
@@ -87,7 +85,7 @@ module _ (c : Cells) (r : ℕ) (enabled : R.enabled_at c.tables r ≡ true) (few
       passes (not c.session.live) _ _ (ap not none) ∙ ap (J.judge_start c s) asks ∙ judge-start s host sp x who known on short names
 
   judge-method : (s : List ℕ) (object : ℕ) (vs : Out Values) (who : ℕ) (x : Slot) → U.object_in c.session.locking object ≡ O.ThisSp
-      → given no_proof (proof_of s) vs ≡ X.Asked who x → (Over32 x → ⊥) → U.who_in c.session.locking who ≡ W.Row r
+      → given None (proof_of s) vs ≡ Some (record { authority = who; proof = x }) → (Over32 x → ⊥) → U.who_in c.session.locking who ≡ W.Row r
       → J.judge_method c s (U.object_in c.session.locking object) U.authenticate_method vs
       ≡ Compare r (J.place_of x) (J.count_of x) (D.Proved (W.Row r)) (D.Mistaken r)
   unfolding J.judge_method J.need
@@ -155,9 +153,9 @@ module _ (k : Card) (r : ℕ) (b : List ℕ) (ready : Ready k r) where
   its_own live = all_three _ _ _ live (eq-eqb k.cells.session.tsn.0 _ refl) (eq-eqb k.cells.session.hsn.0 _ refl)
 
   on-packet : (s : List ℕ) → sound k ≡ true
-      → ((start count : ℕ) → opened_of s ≡ N.Packet (record { 0 = 0 }) (record { 0 = 0 }) start count → k.cells.session.live ≡ false
+      → ((start count : ℕ) → opened_of s ≡ Some (record { tsn = record { 0 = 0 }; hsn = record { 0 = 0 }; start = start; len = count }) → k.cells.session.live ≡ false
       → Challenges k.cells.tables.active r b (take (start + count) s) start → Compared (Z.hear_packet k.cells s (opened_of s)))
-      × ((start count : ℕ) → opened_of s ≡ N.Packet k.cells.session.tsn k.cells.session.hsn start count → k.cells.session.live ≡ true
+      × ((start count : ℕ) → opened_of s ≡ Some (record { tsn = k.cells.session.tsn; hsn = k.cells.session.hsn; start = start; len = count }) → k.cells.session.live ≡ true
       → Authenticates k.cells.session.locking r b (take (start + count) s) start → Compared (Z.hear_packet k.cells s (opened_of s)))
   unfolding Z.hear_packet
   on-packet s h = (

@@ -1,4 +1,5 @@
 -- A payload that is no call has its sign.
+use Rattle.std.specs.Prelude.{Some}
 use Prim.Native.Nat.{ℕ, ◌+◌}
 use mathlib.Core.Path.{◌≡◌, refl}
 use mathlib.Core.Bool.{Bool, true, false, not, cond}
@@ -7,7 +8,6 @@ use mathlib.Core.Logic.{◌≢◌}
 use native.Mathlib.Omega.{arith}
 use lib.ListN.{length, take}
 use lib.Dec.{ltb}
-use Rattle.packet.specs.declared.Opened.TheVariants as N
 use Rattle.packet.specs.Envelope.{opened_of}
 use Rattle.payload.specs.declared.Payload.{Payload}
 use Rattle.payload.specs.declared.Payload.TheVariants as P
@@ -66,14 +66,14 @@ module _ (k : Card) where
   in-session tsn hsn s P.Broken = λ _. refl
 
   on-packet : (s : List ℕ) (tsn : Tsn) (hsn : Hsn) (start count : ℕ)
-      → Signed (payload_at (take (start + count) s) start) (Z.hear_packet k.cells s (N.Packet tsn hsn start count))
+      → Signed (payload_at (take (start + count) s) start) (Z.hear_packet k.cells s (Some (record { tsn = tsn; hsn = hsn; start = start; len = count })))
   unfolding Z.hear_packet
   on-packet s tsn hsn start count =
       let x = payload_at (take (start + count) s) start in
       cond_ind (Signed x) (Z.is_manager tsn hsn) _ _ (λ _. on-manager tsn hsn _ x) λ _.
       cond_ind (Signed x) (Z.is_session k.cells.session tsn hsn) _ _ (λ _. in-session tsn hsn _ x) (λ _. turned-away x 5 (λ z. omega arith))
 
-  heard-signed : (room : ℕ) (s : List ℕ) (tsn : Tsn) (hsn : Hsn) (start count : ℕ) → opened_of s ≡ N.Packet tsn hsn start count
+  heard-signed : (room : ℕ) (s : List ℕ) (tsn : Tsn) (hsn : Hsn) (start count : ℕ) → opened_of s ≡ Some (record { tsn = tsn; hsn = hsn; start = start; len = count })
       → Signed (payload_at (take (start + count) s) start) (Z.heard k room s)
   unfolding Z.heard
   heard-signed room s tsn hsn start count e =
@@ -84,7 +84,7 @@ module _ (k : Card) where
       rw e (on-packet s tsn hsn start count)
 
   pub controls : (room : ℕ) (s : List ℕ) (tsn : Tsn) (hsn : Hsn) (start count : ℕ)
-      → (Z.command k room s).number ≡ 0 → opened_of s ≡ N.Packet tsn hsn start count
+      → (Z.command k room s).number ≡ 0 → opened_of s ≡ Some (record { tsn = tsn; hsn = hsn; start = start; len = count })
       → Control k.cells.undo.live (payload_at (take (start + count) s) start) (S.sign k (packet room s))
   unfolding S.sign S.query E.answered E.taken
   controls room s tsn hsn start count n e = heard-signed room s tsn hsn start count e n

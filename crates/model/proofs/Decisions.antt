@@ -1,4 +1,5 @@
 -- A transaction begins by FB where none is open, and is committed or abandoned where one is, by what came in for the session: the methods walked once.
+use Rattle.std.specs.Prelude.{Option, Some, None, Result, Ok, Err}
 use Prim.Native.Nat.{ℕ, ◌+◌, ◌≤◌}
 use mathlib.Core.Path.{◌≡◌, refl}
 use mathlib.Core.Bool.{Bool, true, false, not, cond}
@@ -6,20 +7,17 @@ use mathlib.Core.List.{List}
 use borrow.Author.Tests.{ltb-false, not-false}
 use lib.ListN.{length, take}
 use lib.Dec.{ltb}
-use Rattle.packet.specs.declared.Opened.TheVariants as O
-use Rattle.packet.specs.declared.Opened.{Opened}
+use Rattle.packet.specs.declared.Packet.{Packet}
 use Rattle.packet.specs.Envelope.{opened_of}
 use Rattle.payload.specs.declared.Payload.{Payload}
 use Rattle.payload.specs.declared.Payload.TheVariants as P
 use Rattle.payload.specs.Payload.{payload_at}
 use Rattle.item.specs.declared.Slot.{Slot}
 use Rattle.params.specs.declared.Block.{Block}
-use Rattle.params.specs.declared.Block.TheVariants as B
 use Rattle.params.specs.declared.Start.{Start}
-use Rattle.params.specs.declared.Start.TheVariants as T
 use Rattle.params.specs.declared.Proof.{Proof}
-use Rattle.params.specs.declared.Proof.TheVariants as Q
 use Rattle.params.specs.declared.Columns.{Columns}
+use Rattle.params.specs.declared.Offence.{Offence}
 use Rattle.value.specs.Value.{Values}
 use Rattle.value.specs.Read.{Out}
 use Rattle.model.specs.Types.{Tsn, Hsn, Cells, Vault, Card, Object, Who, Change, Decision, Judged}
@@ -81,28 +79,29 @@ module _ (Sent : Payload → Type 0) (c : Cells) where
   who e W.Class x b f g h = b
   who e (W.Row r) x b f g h = needs _ _ _ b (needs _ _ _ f (h (W.Row r), g r))
 
-  start : (s : List ℕ) (x : Start) → FitsAll Sent c (judge_start c s x)
+  start : (s : List ℕ) (x : Option Start) → FitsAll Sent c (judge_start c s x)
   unfolding judge_start
-  start s T.Broken = ends _ tt
-  start s (T.Asked hsn sp write challenge authority) = search (needs, who) depth 12
+  start s None = ends _ tt
+  start s (Some t) = search (needs, who) depth 12
 
   manager : (s : List ℕ) (object method : ℕ) (vs : Out Values) → FitsAll Sent c (judge_manager c s object method vs)
   unfolding judge_manager
   manager s object method vs = search (needs, start) depth 12
 
-  authenticate : (s : List ℕ) (x : Proof) → FitsAll Sent c (judge_proof c s x)
+  authenticate : (s : List ℕ) (x : Option Proof) → FitsAll Sent c (judge_proof c s x)
   unfolding judge_proof
-  authenticate s Q.Broken = ends _ tt
-  authenticate s (Q.Asked authority proof) = search (needs, who) depth 12
+  authenticate s None = ends _ tt
+  authenticate s (Some p) = search (needs, who) depth 12
 
-  get : (o : Object) (x : Block) → FitsAll Sent c (judge_get o x)
+  get : (o : Object) (x : Option Block) → FitsAll Sent c (judge_get o x)
   unfolding judge_get
-  get o B.Broken = ends _ tt
-  get o (B.Of start end) = search (needs, ends) depth 12
+  get o None = ends _ tt
+  get o (Some b) = search (needs, ends) depth 12
 
-  put : (s : List ℕ) (o : Object) (t : Columns) → FitsAll Sent c (judge_set c s o t)
+  put : (s : List ℕ) (o : Object) (x : Result Columns Offence) → FitsAll Sent c (judge_set c s o x)
   unfolding judge_set
-  put s o t = search (needs, ends) depth 12
+  put s o (Err e) = ends _ tt
+  put s o (Ok t) = search (needs, ends) depth 12
 
   bare : (o : Object) (m : ℕ) (b : Bool) (x : Change) → FitsAll Sent c (judge_bare c o m b x)
   unfolding judge_bare
@@ -162,26 +161,29 @@ module _ (k : Card) (room : ℕ) (s : List ℕ) where
   Own = Sends k (packet room s)
 
   -- the packet's numbers are the session's
-  own : sound k ≡ true → 2048 ≤ room → length s ≤ 2048 → (tsn : Tsn) (hsn : Hsn) (start len : ℕ) → opened_of s ≡ O.Packet tsn hsn start len
-      → is_session k.cells.session tsn hsn ≡ true → Own (payload_at (take (start + len) s) start)
-  own ok w f tsn hsn start len e t = record {
-    tsn = tsn.0;
-    hsn = hsn.0;
-    start = start;
-    len = len;
+  own : sound k ≡ true → 2048 ≤ room → length s ≤ 2048 → (p : Packet) → opened_of s ≡ Some p
+      → is_session k.cells.session p.tsn p.hsn ≡ true → Own (payload_at (take (p.start + p.len) s) p.start)
+  own ok w f p e t = record {
+    tsn = p.tsn.0;
+    hsn = p.hsn.0;
+    start = p.start;
+    len = p.len;
     comes = record { sound = ok; enough = w; size = f; says = e; payload = refl };
-    session = (session-decides k tsn hsn).holds t;
+    session = (session-decides k p.tsn p.hsn).holds t;
   }
 
-  by-packet : sound k ≡ true → 2048 ≤ room → length s ≤ 2048 → (o : Opened) → opened_of s ≡ o → FitsHeard Own k.cells (hear_packet k.cells s o)
+  by-packet : sound k ≡ true → 2048 ≤ room → length s ≤ 2048 → (o : Option Packet) → opened_of s ≡ o → FitsHeard Own k.cells (hear_packet k.cells s o)
   unfolding hear_packet
-  by-packet ok w f (O.Packet tsn hsn start len) e =
-      let r = take (start + len) s in
+  by-packet ok w f (Some p) e =
+      let tsn = p.tsn in
+      let hsn = p.hsn in
+      let start = p.start in
+      let r = take (start + p.len) s in
       cond_ind (FitsHeard Own k.cells) (is_manager tsn hsn) _ _ (λ _. by-manager Own k.cells tsn hsn r (payload_at r start)) λ _.
       cond_ind (FitsHeard Own k.cells) (is_session k.cells.session tsn hsn) _ _
-      (λ t. heard-of Own k.cells tsn hsn r _ (session Own k.cells r (payload_at r start) (own ok w f tsn hsn start len e t)))
+      (λ t. heard-of Own k.cells tsn hsn r _ (session Own k.cells r (payload_at r start) (own ok w f p e t)))
       (λ _. away Own k.cells 5)
-  by-packet ok w f O.Broken e = away Own k.cells _
+  by-packet ok w f None e = away Own k.cells _
 
   by-heard : FitsHeard Own k.cells (heard k room s)
   unfolding heard

@@ -1,4 +1,5 @@
 -- What each decision does to the record is what is said of it, cell by cell.
+use Rattle.std.specs.Prelude.{Option, Some, None, unwrap_or}
 use Prim.Native.Nat.{ℕ, ◌+◌, ◌<◌}
 use mathlib.Core.Path.{◌≡◌, refl, sym, ◌∙◌, ap}
 use mathlib.Core.Bool.{Bool, true, false, cond, true≢false}
@@ -9,9 +10,6 @@ use borrow.Author.Tests.{lt-ltb, ltb-true, ltb-false}
 use lib.Dec.{ltb}
 use lib.ListN.{length, get_or, set, replicate}
 use lib.Seq.{take-append_seam, set-get_or}
-use Rattle.ranges.specs.Set.{flag_of}
-use Rattle.ranges.specs.declared.Flag.{Flag}
-use Rattle.ranges.specs.declared.Flag.TheVariants as K
 use Rattle.item.specs.declared.Slot.{Slot}
 use Rattle.item.specs.declared.Slot.TheVariants as S
 use Rattle.params.specs.declared.Columns.{Columns}
@@ -165,11 +163,11 @@ module _ (j : Card) (s : List ℕ) (sound : SoundRecord j) where
   with_tables t = record { cells = R.with_tables j.cells t; vault = j.vault }
 
   -- a flag that is given, or none: f puts it into the tables
-  flag-set : (g : Bool → Change) (f : Bool → Tables) (old : Bool) (x : Flag) → ((on : Bool) → after j s (D.Done (g on)) ≡ with_tables (f on))
-      → f old ≡ j.cells.tables → after j s (D.Done (J.flag_change g x)) ≡ with_tables (f (flag_of old x))
-  unfolding J.flag_change flag_of
-  flag-set g f old K.Keep e h = by-nothing j s ∙ ap with_tables (sym h)
-  flag-set g f old (K.To on) e h = e on
+  flag-set : (g : Bool → Change) (f : Bool → Tables) (old : Bool) (x : Option Bool) → ((on : Bool) → after j s (D.Done (g on)) ≡ with_tables (f on))
+      → f old ≡ j.cells.tables → after j s (D.Done (J.flag_change g x)) ≡ with_tables (f (unwrap_or x old))
+  unfolding J.flag_change
+  flag-set g f old None e h = by-nothing j s ∙ ap with_tables (sym h)
+  flag-set g f old (Some on) e h = e on
 
   set-resettable : (on : Bool) → after j s (D.Done (C.PutResettable on)) ≡ with_tables (R.with_resettable j.cells.tables on)
   unfolding A.apply A.change obey obey_change

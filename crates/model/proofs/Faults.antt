@@ -1,4 +1,5 @@
 -- Each test of the rules fails exactly where the fault is, as it is said.
+use Rattle.std.specs.Prelude.{Option, Some, None}
 use Prim.Native.Nat.{ℕ, zero, suc, ◌≤◌, ◌<◌}
 use mathlib.Core.Path.{◌≡◌, refl, sym, ap, ap₂}
 use mathlib.Core.Bool.{Bool, true, false, not, ◌&&◌, ◌||◌, true≢false}
@@ -13,11 +14,8 @@ use Rattle.ranges.proofs.Decide.{map, from-true, from_false, dec-and, dec-not}
 use Rattle.item.specs.declared.Slot.{Slot}
 use Rattle.item.specs.declared.Slot.TheVariants as S
 use Rattle.params.specs.declared.Columns.{Columns}
-use Rattle.params.specs.declared.Shape.{Shape}
-use Rattle.params.specs.declared.Shape.TheVariants as H
 use Rattle.params.specs.declared.Resets.{Resets}
-use Rattle.params.specs.declared.Resets.TheVariants as X
-use Rattle.params.specs.Columns.{column_at, free, good}
+use Rattle.params.specs.Columns.{column_at, free}
 use Rattle.params.specs.Params.{resets_at}
 use Rattle.model.specs.Types.{Object, Who, Decision, Judged}
 use Rattle.model.specs.declared.Object.TheVariants as O
@@ -96,13 +94,6 @@ free-decides (S.Bytes p n) = from_false refl (λ e. true≢false (sym (ap free e
 free-decides (S.List p) = from_false refl (λ e. true≢false (sym (ap free e)))
 free-decides S.Named = from_false refl (λ e. true≢false (sym (ap free e)))
 
-pub good-decides : (h : Shape) → Decides (good h) (h ≡ H.Good)
-unfolding good
-good-decides H.Good = from-true refl refl
-good-decides H.Broken = from_false refl (λ e. true≢false (sym (ap good e)))
-good-decides H.Unknown = from_false refl (λ e. true≢false (sym (ap good e)))
-good-decides H.Repeated = from_false refl (λ e. true≢false (sym (ap good e)))
-
 -- a test at each column that is given
 pub not-given : (t : Columns) (f : ℕ → Bool) (P : ℕ → Type 0) → ((i : ℕ) → i < 20 → Decides (not (f i)) (P i)) → Decides (not (J.at_given f t)) (N.SomeGiven t P)
 not-given t f P d =
@@ -150,11 +141,10 @@ not_flag (S.Bytes p n) = yes-fault
 not_flag (S.List p) = yes-fault
 not_flag S.Named = yes-fault
 
-not_set : (x : Resets) → Decides (not (J.allowed_set x)) (x ≡ X.Broken)
+not_set : (x : Option Resets) → Decides (not (J.allowed_set x)) (x ≡ None)
 unfolding J.allowed_set
-not_set X.Power = from_false refl (λ e. true≢false (ap J.allowed_set e))
-not_set X.Program = from_false refl (λ e. true≢false (ap J.allowed_set e))
-not_set X.Broken = from-true refl refl
+not_set None = from-true refl refl
+not_set (Some x) = from_false refl (λ e. true≢false (ap J.allowed_set e))
 
 pub not-resets : (s : List ℕ) (x : Slot) → Decides (not (J.is_resets s x)) (N.BadResets s x)
 unfolding J.is_resets

@@ -1,4 +1,5 @@
 -- What is sent is the envelope, a short payload and its pad: it fits the buffer, in whole fours.
+use Rattle.std.specs.Prelude.{Option, Some, None}
 use Prim.Native.Nat.{ℕ, ◌+◌, ◌%◌, ◌≤◌, ◌<◌}
 use mathlib.Core.Path.{◌≡◌, refl}
 use mathlib.Core.Bool.{true, not}
@@ -9,8 +10,7 @@ use native.Mathlib.Omega.{arith}
 use lib.ListN.{length, take, length-append, length-replicate}
 use lib.Dec.{ltb, lit≤}
 use borrow.Author.Tests.{ltb-false, not-false}
-use Rattle.packet.specs.declared.Opened.{Opened}
-use Rattle.packet.specs.declared.Opened.TheVariants as O
+use Rattle.packet.specs.declared.Packet.{Packet}
 use Rattle.packet.specs.Envelope.{pad_of, packet_of, opened_of}
 use Rattle.packet.proofs.Writes.{header-length}
 use Rattle.payload.specs.declared.Payload.{Payload}
@@ -64,13 +64,16 @@ module _ (k : Card) (room : ℕ) (ok : sound k ≡ true) (wide : 2048 ≤ room) 
   by-manager tsn hsn s P.Abandon = λ z. omega arith
   by-manager tsn hsn s P.Broken = λ z. omega arith
 
-  by-packet : (s : List ℕ) (x : Opened) → Heeded k room (hear_packet k.cells s x)
+  by-packet : (s : List ℕ) (x : Option Packet) → Heeded k room (hear_packet k.cells s x)
   unfolding hear_packet
-  by-packet s (O.Packet tsn hsn start len) =
-      let r = take (start + len) s in
+  by-packet s (Some p) =
+      let tsn = p.tsn in
+      let hsn = p.hsn in
+      let start = p.start in
+      let r = take (start + p.len) s in
       cond_ind (Heeded k room) (is_manager tsn hsn) _ _ (λ _. by-manager tsn hsn r (payload_at r start)) λ _.
       cond_ind (Heeded k room) (is_session k.cells.session tsn hsn) (judged tsn hsn r (judge_session k.cells r (payload_at r start))) (turned 5) (λ _. (ok, wide)) (λ _ z. omega arith)
-  by-packet s O.Broken = λ z. omega arith
+  by-packet s None = λ z. omega arith
 
 heeded : (k : Card) (room : ℕ) (s : List ℕ) → Heeded k room (heard k room s)
 unfolding heard

@@ -1,4 +1,5 @@
 -- By which packet a PIN is compared, and what a decision comes from.
+use Rattle.std.specs.Prelude.{Option, Some, None}
 use Prim.Native.Nat.{ℕ, ◌+◌}
 use mathlib.Core.Path.{◌≡◌, refl, sym, ◌∙◌, ap, ap₂}
 use mathlib.Core.Bool.{true, false, not}
@@ -8,8 +9,7 @@ use native.Mathlib.Omega.{arith}
 use borrow.Author.Tests.{eqb-true}
 use lib.ListN.{length}
 use lib.Dec.{ltb, eqb}
-use Rattle.packet.specs.declared.Opened.{Opened}
-use Rattle.packet.specs.declared.Opened.TheVariants as N
+use Rattle.packet.specs.declared.Packet.{Packet}
 use Rattle.packet.specs.Envelope.{opened_of}
 use Rattle.payload.specs.declared.Payload.{Payload}
 use Rattle.payload.specs.declared.Payload.TheVariants as P
@@ -131,9 +131,21 @@ module _ (k : Card) (e : Event) where
             short = is-short x short;
             bytes = bytes-in s x;
           })))
-          (λ em.
+          (λ em t asks.
           set-changes k e s _ _ λ r at n names column.
-          came _ (record { object = object; params = params; call = is_call _ (λ z. omega arith) em; names = names; at = at; count = n; column = column; bytes = refl }))
+          came _
+          (record {
+            object = object;
+            params = params;
+            call = is_call _ (λ z. omega arith) em;
+            names = names;
+            at = at;
+            count = n;
+            columns = t;
+            asks = asks;
+            column = column;
+            bytes = refl;
+          }))
           (λ em. activate-changes k e s k.cells.tables.active (calls _ (λ z. omega arith) em))
           (λ em. revert-changes k e s _ (λ h. reverts O.SpAdmin h em) (λ h. reverts O.SpLocking h em))
           (λ there l. calls _ (λ z. omega arith) (left there l))
@@ -148,9 +160,13 @@ module _ (k : Card) (e : Event) where
     judge-session P.Broken q = plain tt (came _ q)
 
 -- ---- a packet
-hear-packet : (k : Card) (room : ℕ) (s : List ℕ) (o : Opened) → opened_of s ≡ o → heard-as k (packet room s) (Z.hear_packet k.cells s o)
+hear-packet : (k : Card) (room : ℕ) (s : List ℕ) (o : Option Packet) → opened_of s ≡ o → heard-as k (packet room s) (Z.hear_packet k.cells s o)
 unfolding Z.hear_packet
-hear-packet k room s (N.Packet tsn hsn start len) q =
+hear-packet k room s (Some p) q =
+    let tsn = p.tsn in
+    let hsn = p.hsn in
+    let start = p.start in
+    let len = p.len in
     let e = packet room s in
     let x = k.cells.session in
     cond_ind (heard-as k e) (Z.is_manager tsn hsn) _ _
@@ -188,9 +204,12 @@ hear-packet k room s (N.Packet tsn hsn start len) q =
     ))
     _ refl)) (λ _. away)
   where
-    numbers : (a b : Tsn) (c d : Hsn) (p n : ℕ) → a.0 ≡ b.0 → c.0 ≡ d.0 → N.Packet a c p n ≡ N.Packet b d p n
-    numbers a b c d p n e f = ap₂ (λ (u v : ℕ). N.Packet (record { 0 = u }) (record { 0 = v }) p n) e f
-hear-packet k room s N.Broken q = away
+    packed : Tsn → Hsn → ℕ → ℕ → Option Packet
+    packed tsn hsn start len = Some (record { tsn = tsn; hsn = hsn; start = start; len = len })
+
+    numbers : (a b : Tsn) (c d : Hsn) (p n : ℕ) → a.0 ≡ b.0 → c.0 ≡ d.0 → packed a c p n ≡ packed b d p n
+    numbers a b c d p n e f = ap₂ (λ (u v : ℕ). packed (record { 0 = u }) (record { 0 = v }) p n) e f
+hear-packet k room s None q = away
 
 pub heard-asks : (k : Card) (room : ℕ) (s : List ℕ) → AsksHeard k.cells (Compares k (packet room s)) (ComesFrom k (packet room s)) (Z.heard k room s)
 unfolding Z.heard

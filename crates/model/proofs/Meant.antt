@@ -1,4 +1,5 @@
 -- What the parameters and methods of a call name, and what a call changes.
+use Rattle.std.specs.Prelude.{Option, Some, None}
 use Prim.Native.Nat.{ℕ}
 use mathlib.Core.Path.{◌≡◌, refl, sym, ◌∙◌}
 use mathlib.Core.Bool.{Bool, true, false, ◌||◌, cond, true≢false}
@@ -15,9 +16,7 @@ use Rattle.item.specs.declared.Slot.TheVariants as S
 use Rattle.params.specs.declared.Columns.{Columns}
 use Rattle.params.specs.Names.{given, uid_of}
 use Rattle.params.specs.Columns.{column_at}
-use Rattle.params.specs.Params.{no_start, start_of}
-use Rattle.ranges.specs.declared.Flag.{Flag}
-use Rattle.ranges.specs.declared.Flag.TheVariants as F
+use Rattle.params.specs.Params.{start_of}
 use Rattle.model.specs.Types.{Hsn, Session, Card, Object, Change}
 use Rattle.model.specs.declared.Object.TheVariants as O
 use Rattle.model.specs.declared.Who.TheVariants as W
@@ -103,10 +102,10 @@ module _ (k : Card) (e : Event) (s : List ℕ) where
   pin-change r (S.List p) f = tt
   pin-change r S.Named f = tt
 
-  flag-change : (f : Bool → Change) (x : Flag) → ((on : Bool) → Changes k e s (f on)) → Changes k e s (J.flag_change f x)
+  flag-change : (f : Bool → Change) (x : Option Bool) → ((on : Bool) → Changes k e s (f on)) → Changes k e s (J.flag_change f x)
   unfolding J.flag_change
-  flag-change f F.Keep h = tt
-  flag-change f (F.To on) h = h on
+  flag-change f None h = tt
+  flag-change f (Some on) h = h on
 
   pub set-changes : (t : Columns) (o : Object)
       → ((r p n : ℕ) → ((o ≡ O.PinSid) × (r ≡ 0)) ⊎ (o ≡ O.Pin r) → column_at t 3 ≡ S.Bytes p n → Changes k e s (C.PutPin r p n))
@@ -153,7 +152,7 @@ which-sp sp = go (eqb sp U.admin_sp) (eqb sp U.locking_sp) refl refl
     go false false e f h = absurd (true≢false (sym h))
 
 pub start-of : (k : Card) (s : List ℕ) (p params : ℕ) (host : Hsn) (sp : ℕ) (x who : Slot) → payload_at s p ≡ P.Call U.manager_uid U.start_session params
-    → Begun k.cells (given no_start (start_of s) (values_at s 15 params)) host sp x who
+    → Begun k.cells (given None (start_of s) (values_at s 15 params)) host sp x who
     → Start k.cells.tables.active (eqb sp U.locking_sp) host x who s p
 start-of k s p params host sp x who call b =
     record { params = params; sp = sp; call = call; asks = b.asked; names = which-sp sp b.known; on = implies (eqb sp U.locking_sp) _ b.on }

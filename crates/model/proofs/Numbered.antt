@@ -1,4 +1,5 @@
 -- The number that comes back is the lowest that applies; from a factory record number 1 never comes.
+use Rattle.std.specs.Prelude.{Option, Some, None}
 use Prim.Native.Nat.{ℕ, ◌+◌, ◌≤◌, ◌<◌}
 use mathlib.Core.Path.{◌≡◌, refl, sym, ◌∙◌, ap, subst}
 use mathlib.Core.Bool.{Bool, true, false, not, cond, true≢false}
@@ -7,8 +8,7 @@ use mathlib.Core.Logic.{◌≢◌, inl, inr}
 use native.Mathlib.Omega.{arith}
 use lib.ListN.{length, take}
 use lib.Dec.{ltb}
-use Rattle.packet.specs.declared.Opened.{Opened}
-use Rattle.packet.specs.declared.Opened.TheVariants as O
+use Rattle.packet.specs.declared.Packet.{Packet}
 use Rattle.packet.specs.Envelope.{opened_of}
 use Rattle.payload.specs.declared.Payload.{Payload}
 use Rattle.payload.specs.declared.Payload.TheVariants as P
@@ -43,9 +43,9 @@ is_call P.Commit = false
 is_call P.Abandon = false
 is_call P.Broken = false
 
-abbrev is_broken : Opened → Bool
-is_broken (O.Packet tsn hsn start len) = false
-is_broken O.Broken = true
+abbrev is_broken : Option Packet → Bool
+is_broken (Some p) = false
+is_broken None = true
 
 module _ (k : Card) (s : List ℕ) (tsn hsn : ℕ) where
   -- no call: the payload's own kind is put for the one that is read
@@ -79,12 +79,12 @@ module _ (k : Card) (s : List ℕ) where
   abbrev Rest : ℕ → ℕ → ℕ → ℕ → ℕ → Type 0
   Rest n tsn hsn start len = First n 5 (Neither k tsn hsn) (First n 6 (NoCall s tsn hsn start len) (n ≡ 0))
 
-  abbrev Opening : Opened → ℕ → Type 0
+  abbrev Opening : Option Packet → ℕ → Type 0
   Opening x n =
-      First n 4 (x ≡ O.Broken)
-      ((tsn hsn start len : ℕ) → x ≡ O.Packet (record { 0 = tsn }) (record { 0 = hsn }) start len → Rest n tsn hsn start len)
+      First n 4 (x ≡ None)
+      ((tsn hsn start len : ℕ) → x ≡ Some (record { tsn = record { 0 = tsn }; hsn = record { 0 = hsn }; start = start; len = len }) → Rest n tsn hsn start len)
 
-  by-packet : (tsn hsn start len : ℕ) → Rest (number_of k (hear_packet k.cells s (O.Packet (record { 0 = tsn }) (record { 0 = hsn }) start len))) tsn hsn start len
+  by-packet : (tsn hsn start len : ℕ) → Rest (number_of k (hear_packet k.cells s (Some (record { tsn = record { 0 = tsn }; hsn = record { 0 = hsn }; start = start; len = len })))) tsn hsn start len
   unfolding reply_to hear_packet
   by-packet tsn hsn start len =
       let r = take (start + len) s in
@@ -99,15 +99,15 @@ module _ (k : Card) (s : List ℕ) where
       (by-manager k r tsn hsn (payload_at r start))
       refl refl
 
-  by-opened : (x : Opened) → Opening x (number_of k (hear_packet k.cells s x))
+  by-opened : (x : Option Packet) → Opening x (number_of k (hear_packet k.cells s x))
   unfolding reply_to hear_packet
-  by-opened (O.Packet t h a l) =
+  by-opened (Some p) =
       inr (
         λ e. true≢false (sym (ap is_broken e)),
         λ tsn hsn start len e.
-            subst (λ (x : Opened). Rest (number_of k (hear_packet k.cells s x)) tsn hsn start len) (sym e) (by-packet tsn hsn start len),
+            subst (λ (x : Option Packet). Rest (number_of k (hear_packet k.cells s x)) tsn hsn start len) (sym e) (by-packet tsn hsn start len),
       )
-  by-opened O.Broken = inl (refl, refl)
+  by-opened None = inl (refl, refl)
 
 -- ---- packets
 numbered : (k : Card) (room : ℕ) (s : List ℕ) → Numbered k room s (command k room s).number
@@ -162,12 +162,12 @@ past ne (inr q) f z = f q.1 z
 one-is-not : {i : ℕ} → 2 ≤ i → i ≢ 1
 one-is-not l e = omega arith
 
-opened-not-one : (k : Card) (s : List ℕ) (n : ℕ) (x : Opened) → Opening k s x n → n ≢ 1
+opened-not-one : (k : Card) (s : List ℕ) (n : ℕ) (x : Option Packet) → Opening k s x n → n ≢ 1
 opened-not-one k s n x (inl p) = λ z. omega (arith, p.1)
-opened-not-one k s n (O.Packet t h a l) (inr q) =
-    past (λ _. one-is-not (omega arith)) (q.1 t.0 h.0 a l refl) λ r.
+opened-not-one k s n (Some p) (inr q) =
+    past (λ _. one-is-not (omega arith)) (q.1 p.tsn.0 p.hsn.0 p.start p.len refl) λ r.
     past (λ _. one-is-not (omega arith)) r λ e z. omega arith
-opened-not-one k s n O.Broken (inr q) = absurd (q.0 refl)
+opened-not-one k s n None (inr q) = absurd (q.0 refl)
 
 not-one : (k : Card) (room : ℕ) (s : List ℕ) (n : ℕ) → sound k ≡ true → Numbered k room s n → n ≢ 1
 not-one k room s n t h =

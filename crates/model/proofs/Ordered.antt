@@ -1,4 +1,5 @@
 -- The one walk through the checks of every method, against its row of faults.
+use Rattle.std.specs.Prelude.{Option, Some, None, Result, Ok, Err}
 use Prim.Native.Nat.{ℕ, ◌≤◌, ◌<◌}
 use mathlib.Core.Path.{◌≡◌, refl, sym, ◌∙◌, ap, subst}
 use mathlib.Core.Bool.{Bool, true, false, not, ◌&&◌}
@@ -16,8 +17,8 @@ use Rattle.item.specs.declared.Slot.TheVariants as S
 use Rattle.value.specs.Value.{Values}
 use Rattle.value.specs.Read.{Out}
 use Rattle.params.specs.declared.Columns.{Columns}
+use Rattle.params.specs.declared.Offence.{Offence}
 use Rattle.params.specs.declared.Block.{Block}
-use Rattle.params.specs.declared.Block.TheVariants as B
 use Rattle.params.specs.Names.{given, nothing}
 use Rattle.params.specs.Columns.{column_at, free}
 use Rattle.model.specs.Types.{Cells, Card, Object, Who, Status, Change, Decision, Judged}
@@ -37,7 +38,7 @@ use Rattle.model.specs.Words.{MaySet, Has}
 use Rattle.model.specs.Literals.{last_of}
 use Rattle.model.specs.Wants as N
 use Rattle.model.specs.Wants.{When, Ruled}
-use Rattle.model.specs.Calls.{Ways, got_by}
+use Rattle.model.specs.Calls.{Ways, got_by, put_by}
 use Rattle.model.proofs.Cases.{cond_ind}
 use Rattle.model.proofs.Soundness.{dec-on, dec-off}
 use Rattle.model.proofs.Faults as F
@@ -91,33 +92,33 @@ module _ (k : Card) (s : List ℕ) where
   of j = decided k.vault s j
 
   module _ (o : Object) where
-    abbrev pub Get : Block → Decision → Type 0
+    abbrev pub Get : Option Block → Decision → Type 0
     Get x d = let e = decision k.cells s o d in Ruled (N.get_faults k o x) e.refused (e.refused 0x01) (e.refused 0x01) (got_by e o x)
 
     abbrev pub judged_block : ℕ → ℕ → ℕ → Judged
     judged_block n a b =
         J.need (leb a n && leb b n) (D.Refuse E.InvalidParameter) (J.need (leb a b) (D.Refuse E.InvalidParameter) (Settled (D.Told o a b)))
 
-    in_block : (a b : Slot) → J.judge_get o (B.Of a b) ≡ judged_block (last_of o) (N.or 0 a) (N.or (last_of o) b)
+    in_block : (b : Block) → J.judge_get o (Some b) ≡ judged_block (last_of o) (N.or 0 b.start) (N.or (last_of o) b.end)
     unfolding J.judge_get
-    in_block a b = simp (F.last-of o, F.bound-or 0 a, F.bound-or (last_of o) b)
+    in_block b = simp (F.last-of o, F.bound-or 0 b.start, F.bound-or (last_of o) b.end)
 
-    pub got : (x : Block) → Decides (in_table k.cells.session o 0x16) (Has k.cells.session o 0x16)
+    pub got : (x : Option Block) → Decides (in_table k.cells.session o 0x16) (Has k.cells.session o 0x16)
         → Get x (of (J.need (in_table k.cells.session o 0x16) (D.Refuse E.NotAuthorized) (J.judge_get o x)))
     unfolding J.judge_get decided
-    got B.Broken t =
-        look (λ j. Get B.Broken (of j)) _ _ _ (dec-not _ t) (λ n. inl (n, unauthorised)) λ h.
+    got None t =
+        look (λ j. Get None (of j)) _ _ _ (dec-not _ t) (λ n. inl (n, unauthorised)) λ h.
         inr (h, idle (inl (tt, invalid)))
-    got (B.Of a b) t =
+    got (Some b) t =
         let n = last_of o in
-        let x = N.or 0 a in
-        let y = N.or (last_of o) b in
-        look (λ j. Get (B.Of a b) (of j)) _ _ _ (dec-not _ t) (λ n. inl (n, unauthorised)) λ h.
-        subst (λ (j : Judged). Get (B.Of a b) (of j)) (sym (in_block a b))
-        (look (λ j. Get (B.Of a b) (of j)) _ _ (J.need (leb x y) (D.Refuse E.InvalidParameter) (Settled (D.Told o x y)))
+        let x = N.or 0 b.start in
+        let y = N.or (last_of o) b.end in
+        look (λ j. Get (Some b) (of j)) _ _ _ (dec-not _ t) (λ n. inl (n, unauthorised)) λ h.
+        subst (λ (j : Judged). Get (Some b) (of j)) (sym (in_block b))
+        (look (λ j. Get (Some b) (of j)) _ _ (J.need (leb x y) (D.Refuse E.InvalidParameter) (Settled (D.Told o x y)))
         (F.not-and (leb x n) (leb y n) (F.not-le x n) (F.not-le y n))
         (λ f. inr (h, idle (inl (⊎_elim inl (λ q. inr (inl q)) f, invalid)))) λ g.
-        look (λ j. Get (B.Of a b) (of j)) (leb x y) _ _ (F.not-le x y)
+        look (λ j. Get (Some b) (of j)) (leb x y) _ _ (F.not-le x y)
         (λ f. inr (h, idle (inl (inr (inr f), invalid)))) λ u.
         inr (h, idle (inr (⊎_elim (λ q. g (inl q)) (⊎_elim (λ q. g (inr q)) u), idle (idle (idle (idle (idle (within y n (λ q. g (inr q)), refl)))))))))
       where
@@ -125,8 +126,8 @@ module _ (k : Card) (s : List ℕ) where
         within y n f = ⊎_elim (λ p. p) (λ q. absurd (f q)) (le-or-lt y n)
 
     -- ---- Set
-    abbrev pub Set : Columns → Decision → Type 0
-    Set t d = let e = decision k.cells s o d in Ruled (N.set_faults k s o t) e.refused (e.refused 0x01) (e.refused 0x01) (e.put t)
+    abbrev pub Set : Result Columns Offence → Decision → Type 0
+    Set x d = let e = decision k.cells s o d in Ruled (N.set_faults k s o x) e.refused (e.refused 0x01) (e.refused 0x01) (put_by e x)
 
     -- "global 5-9"
     not-global : (i : ℕ) → i < 5 → MaySet k.cells.session (O.Range 0) i → ⊥
@@ -142,24 +143,26 @@ module _ (k : Card) (s : List ℕ) where
         go true d = d.holds refl
         go false d = absurd (h (i, omega arith, d.fails refl, λ m. not-global i l (rw e at m)))
 
-    pub put : (t : Columns) → Decides (in_table k.cells.session o 0x17) (Has k.cells.session o 0x17)
+    pub put : (x : Result Columns Offence) → Decides (in_table k.cells.session o 0x17) (Has k.cells.session o 0x17)
         → ((i : ℕ) → i < 20 → Decides (allowed_column k.cells.session o 0x17 i) (MaySet k.cells.session o i))
         → ((i : ℕ) → o ≡ O.Range i → i < length k.cells.tables.rows)
-        → Set t (of (J.need (in_table k.cells.session o 0x17) (D.Refuse E.NotAuthorized) (J.judge_set k.cells s o t)))
+        → Set x (of (J.need (in_table k.cells.session o 0x17) (D.Refuse E.NotAuthorized) (J.judge_set k.cells s o x)))
     unfolding J.judge_set decided
-    put t pair may there =
-        look (λ j. Set t (of j)) _ _ _ (dec-not _ pair) (λ n. inl (n, unauthorised)) λ h.
-        look (λ j. Set t (of j)) _ _ _ (dec-not _ (F.good-decides t.shape)) (λ f. inr (h, idle (inl (inl f, invalid)))) λ g.
-        look (λ j. Set t (of j)) _ _ _ (F.not-given t (λ i. leb i (last_column o)) (λ i. last_of o < i) (λ i _. rw (F.last-of o) (F.not-le i (last_of o))))
-        (λ f. inr (h, idle (inl (inr f, invalid)))) λ c.
-        look (λ j. Set t (of j)) _ _ _ (F.not-given t (allowed_column k.cells.session o 0x17) (λ i. MaySet k.cells.session o i → ⊥) (λ i l. dec-not _ (may i l)))
-        (λ f. inr (h, idle (inr (⊎_elim g c, inl (f, unauthorised))))) λ w.
+    put (Err e) pair may there =
+        look (λ j. Set (Err e) (of j)) _ _ _ (dec-not _ pair) (λ n. inl (n, unauthorised)) λ h.
+        inr (h, idle (inl (tt, invalid)))
+    put (Ok t) pair may there =
+        look (λ j. Set (Ok t) (of j)) _ _ _ (dec-not _ pair) (λ n. inl (n, unauthorised)) λ h.
+        look (λ j. Set (Ok t) (of j)) _ _ _ (F.not-given t (λ i. leb i (last_column o)) (λ i. last_of o < i) (λ i _. rw (F.last-of o) (F.not-le i (last_of o))))
+        (λ f. inr (h, idle (inl (f, invalid)))) λ c.
+        look (λ j. Set (Ok t) (of j)) _ _ _ (F.not-given t (allowed_column k.cells.session o 0x17) (λ i. MaySet k.cells.session o i → ⊥) (λ i l. dec-not _ (may i l)))
+        (λ f. inr (h, idle (inr (c, inl (f, unauthorised))))) λ w.
         let global : (i : ℕ) → o ≡ O.Range i → i ≡ 0 → (column_at t 3 ≡ S.Absent) × (column_at t 4 ≡ S.Absent) =
         λ i e z. let g = spared t w (e ∙ ap (λ (x : ℕ). O.Range x) z) in (g 3 (omega arith), g 4 (omega arith)) in
         let values = not-values k.cells s t o (λ i e. (there i e, global i e)) in
-        look (λ j. Set t (of j)) _ _ _ values
-        (λ f. inr (h, idle (inr (⊎_elim g c, inr (w, inl (f, invalid)))))) λ v.
-        inr (h, idle (inr (⊎_elim g c, inr (w, inr (v, idle (idle (idle (not-false _ (is_false _ values v), refl))))))))
+        look (λ j. Set (Ok t) (of j)) _ _ _ values
+        (λ f. inr (h, idle (inr (c, inr (w, inl (f, invalid)))))) λ v.
+        inr (h, idle (inr (c, inr (w, inr (v, idle (idle (idle (not-false _ (is_false _ values v), refl))))))))
 
     -- ---- Activate, Revert, RevertSP
     abbrev pub Bare : ℕ → Out Values → Type 0 → Change → Decision → Type 0

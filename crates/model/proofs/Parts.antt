@@ -1,4 +1,5 @@
 -- The parts of a record stay sound: tables, sessions and PINs, as each legal change leaves them.
+use Rattle.std.specs.Prelude.{Option, Some, None, unwrap_or, is_none}
 use Prim.Native.Nat.{ℕ, zero, suc, ◌-◌, ◌≤◌, ◌<◌}
 use mathlib.Core.Path.{◌≡◌, refl, sym, ◌∙◌}
 use mathlib.Core.Bool.{Bool, true, false, true≢false}
@@ -12,11 +13,9 @@ use lib.Dec.{ltb}
 use Rattle.ranges.specs.Decides.{imp}
 use Rattle.ranges.specs.Row.{row_count, no_row, row_at, Holds}
 use Rattle.ranges.specs.Fit.{Fit, fit_b}
-use Rattle.ranges.specs.Set.{number_of, keeps, keeps_span, edited_row, edited, set_ok}
+use Rattle.ranges.specs.Set.{keeps_span, edited_row, edited, set_ok}
 use Rattle.ranges.specs.Reset.{locked_row, reset_rows}
 use Rattle.ranges.specs.declared.Edit.{Edit}
-use Rattle.ranges.specs.declared.Number.{Number}
-use Rattle.ranges.specs.declared.Number.TheVariants as N
 use Rattle.ranges.proofs.Fitted.{fit-decides}
 use Rattle.ranges.proofs.Mapped.{at_map, reset-fits}
 use Rattle.model.specs.Types.{Tsn, Hsn, Row, Mbr, Tables, Session, Secret, Who}
@@ -41,15 +40,14 @@ stored P (x ∷ xs) d (suc i) a h f (suc k) = stored (λ m. P (suc m)) xs d i a 
 abbrev Global : Row → Type 0
 Global r = (r.start ≡ 0) × (r.length ≡ 0)
 
-kept-number : (x : ℕ) (e : Number) → keeps e ≡ true → number_of x e ≡ x
-unfolding keeps number_of
-kept-number x N.Keep h = refl
-kept-number x (N.To v) h = absurd (true≢false (sym h))
+kept-number : (x : ℕ) (e : Option ℕ) → is_none e ≡ true → unwrap_or e x ≡ x
+kept-number x None h = refl
+kept-number x (Some v) h = absurd (true≢false (sym h))
 
 kept-global : (r : Row) (e : Edit) → keeps_span e ≡ true → Global r → Global (edited_row r e)
 unfolding edited_row
 kept-global r e h g =
-    let p = both (keeps e.start) (keeps e.length) h in
+    let p = both (is_none e.start) (is_none e.length) h in
     (kept-number r.start e.start p.0 ∙ g.0, kept-number r.length e.length p.1 ∙ g.1)
 
 module _ (n : ℕ) (t : Tables) (h : SoundTables n t) where

@@ -1,4 +1,5 @@
 -- How a packet that comes is heard: as a call on 0, 0, or in the open session; there each control payload is decided by whether a transaction is open.
+use Rattle.std.specs.Prelude.{Some}
 use Prim.Native.Nat.{ℕ, ◌+◌, ◌≤◌}
 use mathlib.Core.Path.{◌≡◌, refl, ap, ◌∙◌}
 use mathlib.Core.Bool.{true, false}
@@ -7,7 +8,6 @@ use mathlib.Core.Logic.{◌⊎◌, inl, inr}
 use native.Mathlib.Omega.{arith}
 use borrow.Author.Tests.{le-ltb, eq-eqb, ne_eqb}
 use lib.ListN.{length, take}
-use Rattle.packet.specs.declared.Opened.TheVariants as O
 use Rattle.payload.specs.declared.Payload.{Payload}
 use Rattle.payload.specs.declared.Payload.TheVariants as P
 use Rattle.value.specs.Read.{values_at}
@@ -42,7 +42,7 @@ pub soundly : {k : Card} {room : ℕ} {s : List ℕ} {tsn hsn start len : ℕ} {
 soundly {k = k} h = (sound-decides k).holds h.sound
 
 module _ (k : Card) (room : ℕ) (s : List ℕ) (tsn hsn start len : ℕ) (p : Payload) (h : Comes k room s tsn hsn start len p) where
-  opened : heard k room s ≡ hear_packet k.cells s (O.Packet (tsn_of tsn) (hsn_of hsn) start len)
+  opened : heard k room s ≡ hear_packet k.cells s (Some (record { tsn = tsn_of tsn; hsn = hsn_of hsn; start = start; len = len }))
   unfolding heard
   opened = simp (h.sound, le-ltb room 2048 h.enough, le-ltb 2048 (length s) h.size, h.says)
 

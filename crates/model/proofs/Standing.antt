@@ -1,4 +1,5 @@
 -- The row as it would stand after a Set, and the values of a Set: each test fails exactly where the fault is.
+use Rattle.std.specs.Prelude.{unwrap_or, is_none, Option, Some, None}
 use Prim.Native.Nat.{ℕ, zero, suc, ◌≤◌, ◌<◌}
 use mathlib.Core.Path.{◌≡◌, refl, sym, ◌∙◌, ap, subst}
 use mathlib.Core.Bool.{Bool, true, false, not, true≢false}
@@ -13,7 +14,7 @@ use lib.Seq.{get_or-set_same, get_or-set_other}
 use Rattle.ranges.specs.Decides.{Decides, imp}
 use Rattle.ranges.specs.Row.{no_row, row_at}
 use Rattle.ranges.specs.Fit.{Fit}
-use Rattle.ranges.specs.Set.{number_of, flag_of, edited_row, edited, keeps, keeps_span, set_ok}
+use Rattle.ranges.specs.Set.{edited_row, edited, keeps_span, set_ok}
 use Rattle.ranges.proofs.Decide.{from-true, from_false}
 use Rattle.ranges.proofs.Fitted.{Span, fit-decides, fit-spans}
 use Rattle.item.specs.declared.Slot.{Slot}
@@ -31,8 +32,8 @@ use Rattle.model.specs.Wants.{WouldNotFit, BadValues}
 use Rattle.model.proofs.Faults as F
 
 -- ---- a cell after a Set
-pub number-as : (x : Slot) (old : ℕ) → NumberAs x old (number_of old (J.number_in x))
-unfolding number_of J.number_in
+pub number-as : (x : Slot) (old : ℕ) → NumberAs x old (unwrap_or (J.number_in x) old)
+unfolding J.number_in
 number-as S.Absent old = refl
 number-as (S.Int v) old = refl
 number-as (S.Bytes p n) old = refl
@@ -54,22 +55,22 @@ is_one v = go (eqb v 1) refl
     go true e = inl (eqb-true v 1 e, refl)
     go false e = inr (eqb-false v 1 e, refl)
 
-pub flag-as : (x : Slot) (old : Bool) → FlagAs x old (flag_of old (J.flag_in x))
-unfolding flag_of J.flag_in
+pub flag-as : (x : Slot) (old : Bool) → FlagAs x old (unwrap_or (J.flag_in x) old)
+unfolding J.flag_in
 flag-as S.Absent old = refl
 flag-as (S.Int v) old = is_one v
 flag-as (S.Bytes p n) old = refl
 flag-as (S.List p) old = refl
 flag-as S.Named old = refl
 
-with-program : (x : Resets) → ((x ≡ X.Program) × (J.with_program x ≡ true)) ⊎ ((x ≢ X.Program) × (J.with_program x ≡ false))
+with-program : (x : Option Resets) → ((x ≡ Some X.Program) × (J.with_program x ≡ true)) ⊎ ((x ≢ Some X.Program) × (J.with_program x ≡ false))
 unfolding J.with_program
-with-program X.Power = inr (λ e. true≢false (sym (ap J.with_program e)), refl)
-with-program X.Program = inl (refl, refl)
-with-program X.Broken = inr (λ e. true≢false (sym (ap J.with_program e)), refl)
+with-program None = inr (λ e. true≢false (sym (ap J.with_program e)), refl)
+with-program (Some X.Power) = inr (λ e. true≢false (sym (ap J.with_program e)), refl)
+with-program (Some X.Program) = inl (refl, refl)
 
-pub resets-as : (s : List ℕ) (x : Slot) (old : Bool) → ResetsAs s x old (flag_of old (J.resets_in s x))
-unfolding flag_of J.resets_in
+pub resets-as : (s : List ℕ) (x : Slot) (old : Bool) → ResetsAs s x old (unwrap_or (J.resets_in s x) old)
+unfolding J.resets_in
 resets-as s S.Absent old = refl
 resets-as s (S.Int v) old = refl
 resets-as s (S.Bytes p n) old = refl
@@ -118,8 +119,8 @@ module _ (c : Cells) (s : List ℕ) (t : Columns) (k : ℕ) (there : k < length 
       x.2 (fit-spans (edited c.tables.rows k (J.edit_in s t)) x.0 c.n (x.1.many ∙ sym rows_as.many) (λ i l. one_span x.0 x.1 i) (d.holds refl)))
   fits-as false d = from-true refl (edited c.tables.rows k (J.edit_in s t), rows_as, d.fails refl)
 
-  keeps-none : (x : Slot) → x ≡ S.Absent → keeps (J.number_in x) ≡ true
-  unfolding keeps J.number_in
+  keeps-none : (x : Slot) → x ≡ S.Absent → is_none (J.number_in x) ≡ true
+  unfolding J.number_in
   keeps-none x e = rw e refl
 
   -- the global range's numbers are not given

@@ -1,4 +1,5 @@
 -- A transaction keeps the tables and PINs from before it until it ends: an abandon puts them back, a commit does not, and before it nothing shows.
+use Rattle.std.specs.Prelude.{Some}
 use Prim.Native.Nat.{ℕ}
 use mathlib.Core.Path.{◌≡◌, refl, sym, ◌∙◌, ap, subst}
 use mathlib.Core.Bool.{Bool, true, false, not, cond, true≢false}
@@ -12,7 +13,6 @@ use Rattle.model.specs.Types.{Undo, Cells, Secret, Card, Who, Change, Decision}
 use Rattle.model.specs.declared.Who.TheVariants as W
 use Rattle.model.specs.declared.Change.TheVariants as C
 use Rattle.model.specs.declared.Decision.TheVariants as D
-use Rattle.model.specs.declared.Ruling.TheVariants as G
 use Rattle.model.specs.Sound.{sound}
 use Rattle.model.specs.Vault.{given_up, obey_change, obey}
 use Rattle.model.specs.Apply.{settled_tables, cleared, change, apply, relocked, tper_reset, power_cycle}
@@ -303,7 +303,7 @@ module _ (steps : (k : Card) (e : Event) → sound k ≡ true → sound (next k 
   }
 
   verdict : (k : Card) (write : Bool) (start count : ℕ) → sound k ≡ true → k.cells.undo.live ≡ false → let t = k.cells.tables in
-      media k write start count ≡ G.Ruled (media_of t.rows t.mbr t.active k.cells.n write start count)
+      media k write start count ≡ Some (media_of t.rows t.mbr t.active k.cells.n write start count)
   unfolding media
   verdict k write start count h o = rw (h, o) refl
 

@@ -1,4 +1,5 @@
 -- The walk: whatever is decided of a packet is legal where it is decided.
+use Rattle.std.specs.Prelude.{Option, Some, None, Result, Ok, Err}
 use Prim.Native.Nat.{ℕ, ◌<◌}
 use mathlib.Core.Path.{◌≡◌, refl, sym}
 use mathlib.Core.Bool.{Bool, true, false, ◌&&◌, cond, true≢false}
@@ -6,8 +7,7 @@ use mathlib.Core.List.{List}
 use borrow.Author.Tests.{ltb-true, leb-true, not-true}
 use native.Mathlib.Omega.{arith}
 use lib.Dec.{eqb}
-use Rattle.packet.specs.declared.Opened.{Opened}
-use Rattle.packet.specs.declared.Opened.TheVariants as N
+use Rattle.packet.specs.declared.Packet.{Packet}
 use Rattle.payload.specs.declared.Payload.{Payload}
 use Rattle.payload.specs.declared.Payload.TheVariants as P
 use Rattle.value.specs.Value.{Values}
@@ -15,16 +15,12 @@ use Rattle.value.specs.Read.{Out}
 use Rattle.item.specs.declared.Slot.{Slot}
 use Rattle.item.specs.declared.Slot.TheVariants as S
 use Rattle.params.specs.declared.Columns.{Columns}
+use Rattle.params.specs.declared.Offence.{Offence}
 use Rattle.params.specs.declared.Block.{Block}
-use Rattle.params.specs.declared.Block.TheVariants as B
 use Rattle.params.specs.declared.Start.{Start}
-use Rattle.params.specs.declared.Start.TheVariants as T
 use Rattle.params.specs.declared.Proof.{Proof}
-use Rattle.params.specs.declared.Proof.TheVariants as X
 use Rattle.params.specs.Columns.{column_at}
 use Rattle.ranges.specs.Decides.{imp}
-use Rattle.ranges.specs.declared.Flag.{Flag}
-use Rattle.ranges.specs.declared.Flag.TheVariants as F
 use Rattle.model.specs.Types.{Tsn, Hsn, Cells, Card, Object, Who, Change}
 use Rattle.model.specs.declared.Who.TheVariants as W
 use Rattle.model.specs.declared.Change.TheVariants as C
@@ -54,10 +50,13 @@ judge-who c e x (L.row {r = r} k) b f g h =
     either (h (W.Row r) (L.row k)) (g r (k.there, ltb-true _ _ t))
 
 -- ---- on 0, 0
-judge-start : (c : Cells) (s : List ℕ) (a : Start) → c.session.live ≡ false → Fair c (J.judge_start c s a)
+judge-start : (c : Cells) (s : List ℕ) (a : Option Start) → c.session.live ≡ false → Fair c (J.judge_start c s a)
 unfolding J.judge_start
-judge-start c s T.Broken none = surely tt
-judge-start c s (T.Asked hsn sp write challenge authority) none =
+judge-start c s None none = surely tt
+judge-start c s (Some t) none =
+    let sp = t.sp in
+    let challenge = t.challenge in
+    let authority = t.authority in
     need-ind (Fair c) _ _ _ (surely tt) λ _. need-ind (Fair c) _ _ _ (surely tt) λ on. need-ind (Fair c) _ _ _ (surely tt) λ _.
     need-ind (Fair c) _ _ _ (surely tt) λ _. need-ind (Fair c) _ _ _ (surely tt) λ _. need-ind (Fair c) _ _ _ (surely tt) λ _.
     judge-who c _ challenge (L.signer-known s (eqb sp U.locking_sp) authority) tt tt (λ r h. h)
@@ -86,10 +85,10 @@ pin-legal c r (S.Bytes p n) m e = (m, leb-true _ _ e)
 pin-legal c r (S.List p) m e = tt
 pin-legal c r S.Named m e = tt
 
-flag-legal : (c : Cells) (f : Bool → Change) (x : Flag) → ((on : Bool) → LegalChange c (f on)) → LegalChange c (J.flag_change f x)
+flag-legal : (c : Cells) (f : Bool → Change) (x : Option Bool) → ((on : Bool) → LegalChange c (f on)) → LegalChange c (J.flag_change f x)
 unfolding J.flag_change
-flag-legal c f F.Keep h = tt
-flag-legal c f (F.To on) h = h on
+flag-legal c f None h = tt
+flag-legal c f (Some on) h = h on
 
 range-legal : (a b d e f g h i : Bool) → (a && (b && (d && (e && (f && (g && (h && i))))))) ≡ true → i ≡ true
 range-legal a b d e f g h i t =
@@ -114,22 +113,25 @@ change-legal c s t L.nothing e = tt
 
 -- ---- in the session
 module _ (c : Cells) (live : c.session.live ≡ true) where
-  judge-proof : (s : List ℕ) (a : Proof) → Fair c (J.judge_proof c s a)
+  judge-proof : (s : List ℕ) (a : Option Proof) → Fair c (J.judge_proof c s a)
   unfolding J.judge_proof
-  judge-proof s X.Broken = surely tt
-  judge-proof s (X.Asked authority proof) =
+  judge-proof s None = surely tt
+  judge-proof s (Some p) =
+      let authority = p.authority in
+      let proof = p.proof in
       need-ind (Fair c) _ _ _ (surely tt) λ _. need-ind (Fair c) _ _ _ (surely tt) λ _.
       judge-who c _ proof (L.who-known c.session.locking authority) tt tt (λ r h. h) (λ v k. (live, k))
 
-  judge-get : (o : Object) (a : Block) → Fair c (J.judge_get o a)
+  judge-get : (o : Object) (a : Option Block) → Fair c (J.judge_get o a)
   unfolding J.judge_get
-  judge-get o B.Broken = surely tt
-  judge-get o (B.Of start end) = need-ind (Fair c) _ _ _ (surely tt) λ _. need-ind (Fair c) _ _ _ (surely tt) λ _. surely tt
+  judge-get o None = surely tt
+  judge-get o (Some b) = need-ind (Fair c) _ _ _ (surely tt) λ _. need-ind (Fair c) _ _ _ (surely tt) λ _. surely tt
 
-  judge-set : (s : List ℕ) {o : Object} (t : Columns) → Placed c.session.locking o → Fair c (J.judge_set c s o t)
+  judge-set : (s : List ℕ) {o : Object} (x : Result Columns Offence) → Placed c.session.locking o → Fair c (J.judge_set c s o x)
   unfolding J.judge_set
-  judge-set s t p =
-      need-ind (Fair c) _ _ _ (surely tt) λ _. need-ind (Fair c) _ _ _ (surely tt) λ _. need-ind (Fair c) _ _ _ (surely tt) λ _.
+  judge-set s (Err f) p = surely tt
+  judge-set s (Ok t) p =
+      need-ind (Fair c) _ _ _ (surely tt) λ _. need-ind (Fair c) _ _ _ (surely tt) λ _.
       need-ind (Fair c) _ _ _ (surely tt) λ e. surely (live, change-legal c s t p e)
 
   judge-bare : (o : Object) (m : ℕ) (bare : Bool) (x : Change) → (c.undo.live ≡ false → LegalChange c x) → Fair c (J.judge_bare c o m bare x)
@@ -192,12 +194,14 @@ module _ (c : Cells) (live : c.session.live ≡ true) where
   judge-session s P.Broken = surely live
 
 -- ---- a packet
-hear-packet : (c : Cells) (s : List ℕ) (p : Opened) → FairHeard c (Z.hear_packet c s p)
+hear-packet : (c : Cells) (s : List ℕ) (p : Option Packet) → FairHeard c (Z.hear_packet c s p)
 unfolding Z.hear_packet
-hear-packet c s (N.Packet tsn hsn start len) =
+hear-packet c s (Some p) =
+    let tsn = p.tsn in
+    let hsn = p.hsn in
     cond_ind (FairHeard c) (Z.is_manager tsn hsn) _ _ (λ _. hear-manager c tsn hsn _ _) λ _.
     cond_ind (FairHeard c) (Z.is_session c.session tsn hsn) _ _ (λ e. taken (judge-session c (both c.session.live _ e).0 _ _)) (λ _. away)
-hear-packet c s N.Broken = away
+hear-packet c s None = away
 
 -- whatever the test
 heard-either : (c : Cells) (b : Bool) (x y : Z.Heard) → FairHeard c x → FairHeard c y → FairHeard c (cond b x y)

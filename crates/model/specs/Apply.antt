@@ -1,6 +1,6 @@
 -- What a decision does to the cells.
-use Rattle.std.specs.Prelude.{ℕ, ◌+◌, Bool, true, false, cond, List, set, replicate, ltb}
-use Rattle.ranges.specs.Set.{edited, flag_of}
+use Rattle.std.specs.Prelude.{ℕ, ◌+◌, Bool, true, false, cond, List, set, replicate, ltb, unwrap_or}
+use Rattle.ranges.specs.Set.{edited}
 use Rattle.ranges.specs.Reset.{reset_rows, reset_mbr}
 use Rattle.model.specs.Types.{Tsn, Hsn, Mbr, Tables, PinRow, Session, Cells, Who, MbrEdit, Change, Decision}
 use Rattle.model.specs.declared.Who.TheVariants as W
@@ -54,9 +54,9 @@ proved_session s w = record { live = s.live; locking = s.locking; tsn = s.tsn; h
 
 abbrev pub edited_mbr : Mbr → MbrEdit → Mbr
 edited_mbr m e = record {
-  enable = flag_of m.enable e.enable;
-  done = flag_of m.done e.done;
-  done_on_program = flag_of m.done_on_program e.done_on_program;
+  enable = unwrap_or e.enable m.enable;
+  done = unwrap_or e.done m.done;
+  done_on_program = unwrap_or e.done_on_program m.done_on_program;
 }
 
 -- a restore covers every cell of the SP, Tries too

@@ -1,28 +1,22 @@
 -- What is decided of a request, in document 01's order of checks. No PIN is seen here: where one must be compared, that is said, with what follows either way.
-use Rattle.std.specs.Prelude.{ℕ, Bool, true, false, not, ◌&&◌, ◌||◌, cond, List, leb, ltb, eqb}
+use Rattle.std.specs.Prelude.{ℕ, Bool, true, false, not, ◌&&◌, ◌||◌, cond, List, leb, ltb, eqb, Option, Some, None, Result, Ok, Err}
 use Rattle.ranges.specs.Decides.{imp, all}
 use Rattle.ranges.specs.declared.Edit.{Edit}
-use Rattle.ranges.specs.declared.Flag.{Flag}
-use Rattle.ranges.specs.declared.Flag.TheVariants as F
-use Rattle.ranges.specs.declared.Number.{Number}
-use Rattle.ranges.specs.declared.Number.TheVariants as N
 use Rattle.ranges.specs.Set.{set_ok}
 use Rattle.value.specs.Value.{Values}
 use Rattle.value.specs.Read.{Out}
 use Rattle.item.specs.declared.Slot.{Slot}
 use Rattle.item.specs.declared.Slot.TheVariants as S
 use Rattle.params.specs.declared.Columns.{Columns}
+use Rattle.params.specs.declared.Offence.{Offence}
 use Rattle.params.specs.declared.Block.{Block}
-use Rattle.params.specs.declared.Block.TheVariants as B
 use Rattle.params.specs.declared.Start.{Start}
-use Rattle.params.specs.declared.Start.TheVariants as T
 use Rattle.params.specs.declared.Proof.{Proof}
-use Rattle.params.specs.declared.Proof.TheVariants as P
 use Rattle.params.specs.declared.Resets.{Resets}
 use Rattle.params.specs.declared.Resets.TheVariants as X
 use Rattle.params.specs.Names.{given, nothing, uid_of}
-use Rattle.params.specs.Columns.{column_count, column_at, free, good}
-use Rattle.params.specs.Params.{no_block, no_columns, no_start, no_proof, get_of, set_of, start_of, proof_of, resets_at}
+use Rattle.params.specs.Columns.{column_count, column_at, free}
+use Rattle.params.specs.Params.{no_columns, get_of, set_of, start_of, proof_of, resets_at}
 use Rattle.model.specs.Types.{Tables, Cells, Object, Who, MbrEdit, Change, Decision, Judged}
 use Rattle.model.specs.declared.Judged.TheVariants.{Settled, Compare}
 use Rattle.model.specs.declared.Object.TheVariants as O
@@ -87,40 +81,40 @@ signer s locking (S.List p) = W.Unknown
 signer s locking S.Named = W.Unknown
 
 -- "session open, 07; shape, unknown SP, Locking SP inactive, Write not 1, challenge without authority, unknown authority, challenge over 32 bytes, 0C"
-unfoldable pub judge_start : Cells → List ℕ → Start → Judged
-judge_start c s T.Broken = Settled (D.NotStarted E.InvalidParameter)
-judge_start c s (T.Asked hsn sp write challenge authority) =
-    need (eqb sp U.admin_sp || eqb sp U.locking_sp) (D.NotStarted E.InvalidParameter)
-    (need (imp (eqb sp U.locking_sp) c.tables.active) (D.NotStarted E.InvalidParameter)
-    (need (eqb write 1) (D.NotStarted E.InvalidParameter)
-    (need (imp (free authority) (free challenge)) (D.NotStarted E.InvalidParameter)
-    (need (known (signer s (eqb sp U.locking_sp) authority)) (D.NotStarted E.InvalidParameter)
-    (need (leb (count_of challenge) pin_bytes) (D.NotStarted E.InvalidParameter)
+unfoldable pub judge_start : Cells → List ℕ → Option Start → Judged
+judge_start c s None = Settled (D.NotStarted E.InvalidParameter)
+judge_start c s (Some t) =
+    need (eqb t.sp U.admin_sp || eqb t.sp U.locking_sp) (D.NotStarted E.InvalidParameter)
+    (need (imp (eqb t.sp U.locking_sp) c.tables.active) (D.NotStarted E.InvalidParameter)
+    (need (eqb t.write 1) (D.NotStarted E.InvalidParameter)
+    (need (imp (free t.authority) (free t.challenge)) (D.NotStarted E.InvalidParameter)
+    (need (known (signer s (eqb t.sp U.locking_sp) t.authority)) (D.NotStarted E.InvalidParameter)
+    (need (leb (count_of t.challenge) pin_bytes) (D.NotStarted E.InvalidParameter)
     (judge_who c
     (record {
       barred = D.NotStarted E.NotAuthorized;
       full = D.NotStarted E.LockedOut;
       wrong = λ r. D.Missed r;
-      right = λ w. D.Started (eqb sp U.locking_sp) hsn w;
+      right = λ w. D.Started (eqb t.sp U.locking_sp) t.hsn w;
     })
-    (signer s (eqb sp U.locking_sp) authority) challenge))))))
+    (signer s (eqb t.sp U.locking_sp) t.authority) t.challenge))))))
 
 -- "Any other call on 0, 0: status 01"
 unfoldable pub judge_manager : Cells → List ℕ → ℕ → ℕ → Out Values → Judged
 judge_manager c s object method vs =
     need (eqb object U.manager_uid && eqb method U.start_session) (D.Refuse E.NotAuthorized)
     (need (not c.session.live) (D.NotStarted E.NoSessions)
-    (judge_start c s (given no_start (start_of s) vs)))
+    (judge_start c s (given None (start_of s) vs)))
 
 -- ---- Authenticate: "same order from the unknown authority on, but class, disabled and wrong answer SUCCESS with 0, right with 1"
-unfoldable pub judge_proof : Cells → List ℕ → Proof → Judged
-judge_proof c s P.Broken = Settled (D.Refuse E.InvalidParameter)
-judge_proof c s (P.Asked authority proof) =
-    need (known (U.who_in c.session.locking authority)) (D.Refuse E.InvalidParameter)
-    (need (leb (count_of proof) pin_bytes) (D.Refuse E.InvalidParameter)
+unfoldable pub judge_proof : Cells → List ℕ → Option Proof → Judged
+judge_proof c s None = Settled (D.Refuse E.InvalidParameter)
+judge_proof c s (Some p) =
+    need (known (U.who_in c.session.locking p.authority)) (D.Refuse E.InvalidParameter)
+    (need (leb (count_of p.proof) pin_bytes) (D.Refuse E.InvalidParameter)
     (judge_who c
     (record { barred = D.Denied; full = D.Refuse E.LockedOut; wrong = λ r. D.Mistaken r; right = λ w. D.Proved w })
-    (U.who_in c.session.locking authority) proof))
+    (U.who_in c.session.locking p.authority) p.proof))
 
 -- ---- Get: "either left out meaning first or last"
 unfoldable pub bound_of : ℕ → Slot → ℕ
@@ -130,12 +124,12 @@ bound_of z (S.Bytes p n) = z
 bound_of z (S.List p) = z
 bound_of z S.Named = z
 
-unfoldable pub judge_get : Object → Block → Judged
-judge_get o B.Broken = Settled (D.Refuse E.InvalidParameter)
-judge_get o (B.Of start end) =
-    need (leb (bound_of 0 start) (last_column o) && leb (bound_of (last_column o) end) (last_column o)) (D.Refuse E.InvalidParameter)
-    (need (leb (bound_of 0 start) (bound_of (last_column o) end)) (D.Refuse E.InvalidParameter)
-    (Settled (D.Told o (bound_of 0 start) (bound_of (last_column o) end))))
+unfoldable pub judge_get : Object → Option Block → Judged
+judge_get o None = Settled (D.Refuse E.InvalidParameter)
+judge_get o (Some b) =
+    need (leb (bound_of 0 b.start) (last_column o) && leb (bound_of (last_column o) b.end) (last_column o)) (D.Refuse E.InvalidParameter)
+    (need (leb (bound_of 0 b.start) (bound_of (last_column o) b.end)) (D.Refuse E.InvalidParameter)
+    (Settled (D.Told o (bound_of 0 b.start) (bound_of (last_column o) b.end))))
 
 -- ---- Set: values and their types
 unfoldable pub is_number : Slot → Bool
@@ -145,12 +139,12 @@ is_number (S.Bytes p n) = false
 is_number (S.List p) = false
 is_number S.Named = false
 
-unfoldable pub number_in : Slot → Number
-number_in S.Absent = N.Keep
-number_in (S.Int v) = N.To v
-number_in (S.Bytes p n) = N.Keep
-number_in (S.List p) = N.Keep
-number_in S.Named = N.Keep
+unfoldable pub number_in : Slot → Option ℕ
+number_in S.Absent = None
+number_in (S.Int v) = Some v
+number_in (S.Bytes p n) = None
+number_in (S.List p) = None
+number_in S.Named = None
 
 unfoldable pub is_flag : Slot → Bool
 is_flag S.Absent = true
@@ -159,23 +153,22 @@ is_flag (S.Bytes p n) = false
 is_flag (S.List p) = false
 is_flag S.Named = false
 
-unfoldable pub flag_in : Slot → Flag
-flag_in S.Absent = F.Keep
-flag_in (S.Int v) = F.To (eqb v 1)
-flag_in (S.Bytes p n) = F.Keep
-flag_in (S.List p) = F.Keep
-flag_in S.Named = F.Keep
+unfoldable pub flag_in : Slot → Option Bool
+flag_in S.Absent = None
+flag_in (S.Int v) = Some (eqb v 1)
+flag_in (S.Bytes p n) = None
+flag_in (S.List p) = None
+flag_in S.Named = None
 
 -- "LockOnReset and DoneOnReset hold {0} or {0, 3}"
-unfoldable pub allowed_set : Resets → Bool
-allowed_set X.Power = true
-allowed_set X.Program = true
-allowed_set X.Broken = false
+unfoldable pub allowed_set : Option Resets → Bool
+allowed_set None = false
+allowed_set (Some x) = true
 
-unfoldable pub with_program : Resets → Bool
-with_program X.Power = false
-with_program X.Program = true
-with_program X.Broken = false
+unfoldable pub with_program : Option Resets → Bool
+with_program None = false
+with_program (Some X.Power) = false
+with_program (Some X.Program) = true
 
 unfoldable pub is_resets : List ℕ → Slot → Bool
 is_resets s S.Absent = true
@@ -184,12 +177,12 @@ is_resets s (S.Bytes p n) = false
 is_resets s (S.List p) = allowed_set (resets_at s p)
 is_resets s S.Named = false
 
-unfoldable pub resets_in : List ℕ → Slot → Flag
-resets_in s S.Absent = F.Keep
-resets_in s (S.Int v) = F.Keep
-resets_in s (S.Bytes p n) = F.Keep
-resets_in s (S.List p) = F.To (with_program (resets_at s p))
-resets_in s S.Named = F.Keep
+unfoldable pub resets_in : List ℕ → Slot → Option Bool
+resets_in s S.Absent = None
+resets_in s (S.Int v) = None
+resets_in s (S.Bytes p n) = None
+resets_in s (S.List p) = Some (with_program (resets_at s p))
+resets_in s S.Named = None
 
 -- "a stored one 0 to 32"
 unfoldable pub is_pin : Slot → Bool
@@ -206,9 +199,9 @@ pin_change r (S.Bytes p n) = C.PutPin r p n
 pin_change r (S.List p) = C.Nothing
 pin_change r S.Named = C.Nothing
 
-unfoldable pub flag_change : (Bool → Change) → Flag → Change
-flag_change f F.Keep = C.Nothing
-flag_change f (F.To on) = f on
+unfoldable pub flag_change : (Bool → Change) → Option Bool → Change
+flag_change f None = C.Nothing
+flag_change f (Some on) = f on
 
 abbrev pub edit_in : List ℕ → Columns → Edit
 edit_in s t = record {
@@ -260,13 +253,13 @@ abbrev pub at_given : (ℕ → Bool) → Columns → Bool
 at_given f t = all (λ k. imp (not (free (column_at t k))) (f k)) column_count
 
 -- "parameter shape, repeated or unknown column (0C); a Set's columns not allowed (01); values, their types too (0C)"
-unfoldable pub judge_set : Cells → List ℕ → Object → Columns → Judged
-judge_set c s o t =
-    need (good t.shape) (D.Refuse E.InvalidParameter)
-    (need (at_given (λ k. leb k (last_column o)) t) (D.Refuse E.InvalidParameter)
+unfoldable pub judge_set : Cells → List ℕ → Object → Result Columns Offence → Judged
+judge_set c s o (Err e) = Settled (D.Refuse E.InvalidParameter)
+judge_set c s o (Ok t) =
+    need (at_given (λ k. leb k (last_column o)) t) (D.Refuse E.InvalidParameter)
     (need (at_given (allowed_column c.session o U.set_method) t) (D.Refuse E.NotAuthorized)
     (need (values_ok c s t o) (D.Refuse E.InvalidParameter)
-    (Settled (D.Done (change_in s t o))))))
+    (Settled (D.Done (change_in s t o)))))
 
 -- ---- Activate, Revert, RevertSP: no parameters; "then FAIL in a transaction"
 unfoldable pub judge_bare : Cells → Object → ℕ → Bool → Change → Judged
@@ -297,9 +290,9 @@ activate_on t = cond t.active C.Nothing C.Activate
 unfoldable pub judge_method : Cells → List ℕ → Object → ℕ → Out Values → Judged
 judge_method c s o m vs =
     need (in_table c.session o m) (D.Refuse E.NotAuthorized)
-    (cond (eqb m U.get_method) (judge_get o (given no_block get_of vs))
+    (cond (eqb m U.get_method) (judge_get o (given None get_of vs))
     (cond (eqb m U.set_method) (judge_set c s o (given no_columns set_of vs))
-    (cond (eqb m U.authenticate_method) (judge_proof c s (given no_proof (proof_of s) vs))
+    (cond (eqb m U.authenticate_method) (judge_proof c s (given None (proof_of s) vs))
     (cond (eqb m U.activate_method) (judge_bare c o m (given false nothing vs) (activate_on c.tables))
     (cond (eqb m U.revert_method) (judge_bare c o m (given false nothing vs) (revert_of o))
     (judge_bare c o m (given false nothing vs) C.RevertSp))))))

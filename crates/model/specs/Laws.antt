@@ -1,5 +1,5 @@
 -- The laws over runs of events, as statements.
-use Rattle.std.specs.Prelude.{ℕ, ◌+◌, ◌≤◌, ◌<◌, ◌^◌, ◌≡◌, Bool, true, false, List, [], ◌∷◌, ◌≢◌, ◌⊎◌, length, get_or, replicate}
+use Rattle.std.specs.Prelude.{ℕ, ◌+◌, ◌≤◌, ◌<◌, ◌^◌, ◌≡◌, Bool, true, false, List, [], ◌∷◌, ◌≢◌, ◌⊎◌, length, get_or, replicate, Some}
 use Rattle.ranges.specs.Decides.{Decides}
 use Rattle.ranges.specs.Row.{row_count, row_at, Holds}
 use Rattle.ranges.specs.Fit.{Fit}
@@ -8,7 +8,6 @@ use Rattle.ranges.specs.Media.{media_of}
 use Rattle.payload.specs.declared.Payload.TheVariants as P
 use Rattle.model.specs.Types.{Tables, Session, Secret, Card, Decision}
 use Rattle.model.specs.declared.Decision.TheVariants as D
-use Rattle.model.specs.declared.Ruling.TheVariants as G
 use Rattle.model.specs.Record as R
 use Rattle.model.specs.Sound.{sound}
 use Rattle.model.specs.Step.{Event, powered, was_reset, asked, command, power, reset, media, next, run}
@@ -185,7 +184,7 @@ pub record CommitKeeps : Type 0 where
 pub record NothingShows : Type 0 where
   -- outside a transaction the verdict is that of the record's own tables
   pub verdict : (k : Card) (write : Bool) (start count : ℕ) → sound k ≡ true → k.cells.undo.live ≡ false → let t = k.cells.tables in
-      media k write start count ≡ G.Ruled (media_of t.rows t.mbr t.active k.cells.n write start count)
+      media k write start count ≡ Some (media_of t.rows t.mbr t.active k.cells.n write start count)
   pub media : (k : Card) (e : Event) (es : List Event) (write : Bool) (start count : ℕ) → Transaction k e es
       → media (within k e es) write start count ≡ media k write start count
   pub number : (k : Card) (e : Event) (es : List Event) → Transaction k e es → (reset (within k e es)).number ≡ (reset k).number

@@ -1,6 +1,5 @@
 -- The numbers of "What comes back", lowest first, in words of their own.
-use Rattle.std.specs.Prelude.{ℕ, ◌+◌, ◌<◌, ◌≡◌, true, false, List, ◌≢◌, ◌⊎◌, length, take}
-use Rattle.packet.specs.declared.Opened.TheVariants as O
+use Rattle.std.specs.Prelude.{ℕ, ◌+◌, ◌<◌, ◌≡◌, true, false, List, ◌≢◌, ◌⊎◌, length, take, None}
 use Rattle.packet.specs.Envelope.{opened_of}
 use Rattle.payload.specs.declared.Payload.TheVariants as P
 use Rattle.payload.specs.Payload.{payload_at}
@@ -30,7 +29,7 @@ Numbered k room s n =
     First n 1 (sound k ≡ false)
     (First n 2 (room < 2048)
     (First n 3 (2048 < length s)
-    (First n 4 (opened_of s ≡ O.Broken)
+    (First n 4 (opened_of s ≡ None)
     ((tsn hsn start len : ℕ) → Says s tsn hsn start len
     → First n 5 (Neither k tsn hsn)
     (First n 6 (NoCall s tsn hsn start len)

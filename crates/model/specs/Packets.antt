@@ -1,14 +1,13 @@
 -- By which packet a session is opened or closed, a PIN compared or changed, a transaction begun or ended: the envelope, the payload and its parameters.
-use Rattle.std.specs.Prelude.{ℕ, ◌+◌, ◌≡◌, Bool, true, false, List, ◌⊎◌, take, drop}
+use Rattle.std.specs.Prelude.{ℕ, ◌+◌, ◌≡◌, Bool, true, false, List, ◌⊎◌, take, drop, Some, None, Ok}
 use Rattle.payload.specs.declared.Payload.{Payload}
 use Rattle.payload.specs.declared.Payload.TheVariants as P
 use Rattle.payload.specs.Payload.{payload_at}
 use Rattle.value.specs.Read.{values_at}
 use Rattle.item.specs.declared.Slot.{Slot}
 use Rattle.item.specs.declared.Slot.TheVariants as S
-use Rattle.params.specs.declared.Start.TheVariants as T
-use Rattle.params.specs.declared.Proof.TheVariants as X
 use Rattle.params.specs.Names.{given, uid_of}
+use Rattle.params.specs.declared.Columns.{Columns}
 use Rattle.params.specs.Columns.{column_at}
 use Rattle.params.specs.Params.{no_columns, start_of, proof_of, set_of}
 use Rattle.model.specs.Types.{Hsn, Session, Card, Change, Decision}
@@ -44,7 +43,8 @@ pub record Start (active locking : Bool) (host : Hsn) (challenge authority : Slo
   pub params : ℕ
   pub sp : ℕ
   pub call : payload_at s p ≡ P.Call 0xff 0xff02 params
-  pub asks : given T.Broken (start_of s) (values_at s 15 params) ≡ T.Asked host sp 1 challenge authority
+  pub asks : given None (start_of s) (values_at s 15 params)
+      ≡ Some (record { hsn = host; sp = sp; write = 1; challenge = challenge; authority = authority })
   pub names : ((locking ≡ false) × (sp ≡ 0x0000020500000001)) ⊎ ((locking ≡ true) × (sp ≡ 0x0000020500000002))
   pub on : locking ≡ true → active ≡ true
 
@@ -67,7 +67,7 @@ pub record Authenticates (locking : Bool) (r : ℕ) (b : List ℕ) (s : List ℕ
   pub proof : Slot
   pub call : payload_at s p ≡ P.Call object 0x000000060000001c params
   pub this_sp : object_in locking object ≡ O.ThisSp
-  pub asks : given X.Broken (proof_of s) (values_at s 15 params) ≡ X.Asked authority proof
+  pub asks : given None (proof_of s) (values_at s 15 params) ≡ Some (record { authority = authority; proof = proof })
   pub names : who_in locking authority ≡ W.Row r
   pub short : Over32 proof → ⊥
   pub bytes : b ≡ bytes_in s proof
@@ -86,7 +86,9 @@ pub record SetsPin (locking : Bool) (r : ℕ) (b : List ℕ) (s : List ℕ) (p :
   pub count : ℕ
   pub call : payload_at s p ≡ P.Call object 0x0000000600000017 params
   pub names : ((object_in locking object ≡ O.PinSid) × (r ≡ 0)) ⊎ (object_in locking object ≡ O.Pin r)
-  pub column : column_at (given no_columns set_of (values_at s 15 params)) 3 ≡ S.Bytes at count
+  pub columns : Columns
+  pub asks : given no_columns set_of (values_at s 15 params) ≡ Ok columns
+  pub column : column_at columns 3 ≡ S.Bytes at count
   pub bytes : b ≡ take count (drop at s)
 
 -- a call of a method; law_access says which object has it

@@ -1,6 +1,5 @@
 -- Who is proved in the open session: those whose right PIN was given since it was opened, counted from the events.
-use Rattle.std.specs.Prelude.{ℕ, ◌+◌, ◌<◌, ◌≡◌, Bool, true, false, cond, List, [], ◌∷◌, get_or, take, eqb}
-use Rattle.packet.specs.declared.Opened.TheVariants as N
+use Rattle.std.specs.Prelude.{ℕ, ◌+◌, ◌<◌, ◌≡◌, Bool, true, false, cond, List, [], ◌∷◌, get_or, take, eqb, Some}
 use Rattle.packet.specs.Envelope.{opened_of}
 use Rattle.payload.specs.declared.Payload.{Payload}
 use Rattle.payload.specs.declared.Payload.TheVariants as P
@@ -81,7 +80,7 @@ pub record ProvedAsTold : Type 0 where
   -- a session is opened and closed, and a transaction begun and ended, by the packets that document 01 has for it, and by each of these
   pub comes : (k : Card) (e : Event) (s : List ℕ) (d : Decision) → taken k e ≡ took s d → ComesFrom k e s d
   pub controls : (k : Card) (room : ℕ) (s : List ℕ) (tsn : Tsn) (hsn : Hsn) (start count : ℕ)
-      → (command k room s).number ≡ 0 → opened_of s ≡ N.Packet tsn hsn start count
+      → (command k room s).number ≡ 0 → opened_of s ≡ Some (record { tsn = tsn; hsn = hsn; start = start; len = count })
       → Control k.cells.undo.live (payload_at (take (start + count) s) start) (sign k (packet room s))
   -- a session that is opened is to the SP, and for the host, that its StartSession names
   pub opened : (k : Card) (e : Event) → k.cells.session.live ≡ false → (next k e).cells.session.live ≡ true

@@ -1,6 +1,7 @@
 -- What anybody sees of an event, and what was decided in it: the words of the laws.
-use Rattle.std.specs.Prelude.{ℕ, Bool, List, [], ◌∷◌}
-use Rattle.model.specs.Types.{Cells, Card, Decision, Judged, Ruling}
+use Rattle.std.specs.Prelude.{ℕ, Bool, List, [], ◌∷◌, Option}
+use Rattle.ranges.specs.declared.Verdict.{Verdict}
+use Rattle.model.specs.Types.{Cells, Card, Decision, Judged}
 use Rattle.model.specs.declared.Judged.TheVariants.{Settled, Compare}
 use Rattle.model.specs.Vault.{matches, part, decided}
 use Rattle.model.specs.Step.{Heard, turned, judged, heard, Reply, command, power, reset, ruling_number, media, Event, packet, powered, was_reset, asked, next}
@@ -8,7 +9,7 @@ use Rattle.model.specs.Step.{Heard, turned, judged, heard, Reply, command, power
 -- what the media shows: only where it is asked
 pub data Shown : Type 0 where
   not_shown : Shown
-  shown : Ruling → Shown
+  shown : Option Verdict → Shown
 
 -- the number, the answer's bytes, the media's ruling, and every cell that is no PIN
 pub record Sight : Type 0 where

@@ -1,6 +1,5 @@
 -- What comes in: a packet that is heard, with its numbers and its payload, and the open session that it is for.
-use Rattle.std.specs.Prelude.{ℕ, ◌+◌, ◌≤◌, ◌≡◌, true, List, length, take}
-use Rattle.packet.specs.declared.Opened.TheVariants as O
+use Rattle.std.specs.Prelude.{ℕ, ◌+◌, ◌≤◌, ◌≡◌, true, List, length, take, Some}
 use Rattle.packet.specs.Envelope.{opened_of}
 use Rattle.payload.specs.declared.Payload.{Payload}
 use Rattle.payload.specs.Payload.{payload_at}
@@ -10,7 +9,7 @@ use Rattle.model.specs.Step.{Event, packet, powered, was_reset, asked}
 
 -- the envelope says these
 abbrev pub Says : List ℕ → ℕ → ℕ → ℕ → ℕ → Type 0
-Says s tsn hsn start len = opened_of s ≡ O.Packet (record { 0 = tsn }) (record { 0 = hsn }) start len
+Says s tsn hsn start len = opened_of s ≡ Some (record { tsn = record { 0 = tsn }; hsn = record { 0 = hsn }; start = start; len = len })
 
 -- a packet with this payload, on these numbers, that neither its record nor its room, length or envelope turns away
 pub record Comes (k : Card) (room : ℕ) (s : List ℕ) (tsn hsn start len : ℕ) (p : Payload) : Type 0 where

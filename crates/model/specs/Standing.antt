@@ -1,5 +1,5 @@
 -- A row as it would stand after a Set, column by column, and a list of which one entry changes.
-use Rattle.std.specs.Prelude.{ℕ, ◌≡◌, Bool, true, false, List, ◌≢◌, ◌⊎◌, length, get_or}
+use Rattle.std.specs.Prelude.{ℕ, ◌≡◌, Bool, true, false, List, ◌≢◌, ◌⊎◌, length, get_or, Some}
 use Rattle.item.specs.declared.Slot.{Slot}
 use Rattle.item.specs.declared.Slot.TheVariants as S
 use Rattle.params.specs.declared.Columns.{Columns}
@@ -29,7 +29,7 @@ abbrev pub ResetsAs : List ℕ → Slot → Bool → Bool → Type 0
 ResetsAs s S.Absent old x = x ≡ old
 ResetsAs s (S.Int v) old x = x ≡ old
 ResetsAs s (S.Bytes p n) old x = x ≡ old
-ResetsAs s (S.List p) old x = ((resets_at s p ≡ X.Program) × (x ≡ true)) ⊎ ((resets_at s p ≢ X.Program) × (x ≡ false))
+ResetsAs s (S.List p) old x = ((resets_at s p ≡ Some X.Program) × (x ≡ true)) ⊎ ((resets_at s p ≢ Some X.Program) × (x ≡ false))
 ResetsAs s S.Named old x = x ≡ old
 
 -- "Range columns: 3 start, 4 length, 5 and 6 read and write lock enabled, 7 and 8 locked, 9 LockOnReset"

@@ -1,16 +1,15 @@
 -- A packet from its bytes to the answer's, the resets and the media question; a step, and a run.
-use Rattle.std.specs.Prelude.{ℕ, ◌+◌, Bool, true, false, not, ◌&&◌, cond, List, [], ◌∷◌, ◌++◌, length, take, drop, ltb, eqb}
-use Rattle.packet.specs.declared.Opened.{Opened}
-use Rattle.packet.specs.declared.Opened.TheVariants as O
+use Rattle.std.specs.Prelude.{ℕ, ◌+◌, Bool, true, false, not, ◌&&◌, cond, List, [], ◌∷◌, ◌++◌, length, take, drop, ltb, eqb, Option, Some, None}
+use Rattle.packet.specs.declared.Packet.{Packet}
 use Rattle.packet.specs.Envelope.{opened_of, number_of, packet_of}
 use Rattle.payload.specs.declared.Payload.{Payload}
 use Rattle.payload.specs.declared.Payload.TheVariants as P
 use Rattle.payload.specs.Payload.{payload_at}
 use Rattle.value.specs.Read.{values_at}
+use Rattle.ranges.specs.declared.Verdict.{Verdict}
 use Rattle.ranges.specs.Media.{media_of}
-use Rattle.model.specs.Types.{Tsn, Hsn, Session, Cells, Card, Decision, Judged, Outcome, Ruling}
+use Rattle.model.specs.Types.{Tsn, Hsn, Session, Cells, Card, Decision, Judged, Outcome}
 use Rattle.model.specs.declared.Decision.TheVariants as D
-use Rattle.model.specs.declared.Ruling.TheVariants as G
 use Rattle.model.specs.Record as R
 use Rattle.model.specs.Sound.{size_ok, sound}
 use Rattle.model.specs.Uids as U
@@ -54,12 +53,13 @@ abbrev pub is_session : Session → Tsn → Hsn → Bool
 is_session x tsn hsn = x.live && (eqb x.tsn.0 tsn.0 && eqb x.hsn.0 hsn.0)
 
 -- "TSN, HSN neither 0, 0 nor the open session"
-unfoldable pub hear_packet : Cells → List ℕ → Opened → Heard
-hear_packet c s (O.Packet tsn hsn start len) =
-    cond (is_manager tsn hsn) (hear_manager c tsn hsn (take (start + len) s) (payload_at (take (start + len) s) start))
-    (cond (is_session c.session tsn hsn) (judged tsn hsn (take (start + len) s) (judge_session c (take (start + len) s) (payload_at (take (start + len) s) start)))
+unfoldable pub hear_packet : Cells → List ℕ → Option Packet → Heard
+hear_packet c s (Some p) =
+    cond (is_manager p.tsn p.hsn) (hear_manager c p.tsn p.hsn (take (p.start + p.len) s) (payload_at (take (p.start + p.len) s) p.start))
+    (cond (is_session c.session p.tsn p.hsn)
+    (judged p.tsn p.hsn (take (p.start + p.len) s) (judge_session c (take (p.start + p.len) s) (payload_at (take (p.start + p.len) s) p.start)))
     (turned 5))
-hear_packet c s O.Broken = turned (number_of O.Broken)
+hear_packet c s None = turned (number_of None)
 
 -- "Lowest number first"
 unfoldable pub heard : Card → ℕ → List ℕ → Heard
@@ -139,16 +139,16 @@ reset k =
     (record { number = 0; card = reset_to k (tper_reset k.cells); bytes = [] }))
 
 -- ---- the media: "With a transaction open, media questions go by the cells from before it"
--- number 1 for an unsound record, and else 0 with the verdict
-unfoldable pub ruling_number : Ruling → ℕ
-ruling_number G.Unsound = 1
-ruling_number (G.Ruled v) = 0
+-- number 1 for an unsound record, which has no verdict, and else 0
+unfoldable pub ruling_number : Option Verdict → ℕ
+ruling_number None = 1
+ruling_number (Some v) = 0
 
-unfoldable pub media : Card → Bool → ℕ → ℕ → Ruling
+unfoldable pub media : Card → Bool → ℕ → ℕ → Option Verdict
 media k write start count =
     cond (sound k)
-    (G.Ruled (media_of (settled_tables k.cells).rows (settled_tables k.cells).mbr (settled_tables k.cells).active k.cells.n write start count))
-    G.Unsound
+    (Some (media_of (settled_tables k.cells).rows (settled_tables k.cells).mbr (settled_tables k.cells).active k.cells.n write start count))
+    None
 
 -- ---- events are what the outside gives
 pub data Event : Type 0 where

@@ -20,4 +20,3 @@ pub use Rattle.model.specs.declared.Change.{Change}
 pub use Rattle.model.specs.declared.Decision.{Decision}
 pub use Rattle.model.specs.declared.Judged.{Judged}
 pub use Rattle.model.specs.declared.Outcome.{Outcome}
-pub use Rattle.model.specs.declared.Ruling.{Ruling}

@@ -1,5 +1,5 @@
 -- What a call can be refused for, in document 01's words and order: one row of faults for each method, and one order of judging for all.
-use Rattle.std.specs.Prelude.{ℕ, ◌<◌, ◌≡◌, Bool, true, false, List, [], ◌≢◌, ◌⊎◌, get_or, take, drop, eqb}
+use Rattle.std.specs.Prelude.{ℕ, ◌<◌, ◌≡◌, Bool, true, false, List, [], ◌≢◌, ◌⊎◌, get_or, take, drop, eqb, Option, Some, None, Result, Ok, Err}
 use Rattle.ranges.specs.Row.{no_row}
 use Rattle.ranges.specs.Fit.{Fit}
 use Rattle.value.specs.Value.{Values}
@@ -7,14 +7,10 @@ use Rattle.value.specs.Read.{Out}
 use Rattle.item.specs.declared.Slot.{Slot}
 use Rattle.item.specs.declared.Slot.TheVariants as S
 use Rattle.params.specs.declared.Columns.{Columns}
-use Rattle.params.specs.declared.Shape.TheVariants as H
+use Rattle.params.specs.declared.Offence.{Offence}
 use Rattle.params.specs.declared.Block.{Block}
-use Rattle.params.specs.declared.Block.TheVariants as B
 use Rattle.params.specs.declared.Start.{Start}
-use Rattle.params.specs.declared.Start.TheVariants as T
 use Rattle.params.specs.declared.Proof.{Proof}
-use Rattle.params.specs.declared.Proof.TheVariants as P
-use Rattle.params.specs.declared.Resets.TheVariants as X
 use Rattle.params.specs.Names.{given, nothing, uid_of}
 use Rattle.params.specs.Columns.{column_at}
 use Rattle.params.specs.Params.{resets_at}
@@ -139,17 +135,18 @@ start_shape k s sp write challenge authority =
     ⊎ (Unheard (signs s (eqb sp 0x20500000002) authority)
     ⊎ Over32 challenge))))
 
-abbrev pub start_faults : Card → List ℕ → Start → Faults
-start_faults k s T.Broken = row ⊥ (k.cells.session.live ≡ true) Always ⊥ ⊥ ⊥ ⊥ ⊥
-start_faults k s (T.Asked hsn sp write challenge authority) =
-    pin_row k (signs s (eqb sp 0x20500000002) authority) (bytes_in s challenge) ⊥ (k.cells.session.live ≡ true) (start_shape k s sp write challenge authority)
+abbrev pub start_faults : Card → List ℕ → Option Start → Faults
+start_faults k s None = row ⊥ (k.cells.session.live ≡ true) Always ⊥ ⊥ ⊥ ⊥ ⊥
+start_faults k s (Some t) =
+    pin_row k (signs s (eqb t.sp 0x20500000002) t.authority) (bytes_in s t.challenge) ⊥ (k.cells.session.live ≡ true)
+    (start_shape k s t.sp t.write t.challenge t.authority)
 
 -- ---- Authenticate: "same order from the unknown authority on"
-abbrev pub proof_faults : Card → List ℕ → Object → Proof → Faults
-proof_faults k s o P.Broken = row (Lacks k o 0x1c) ⊥ Always ⊥ ⊥ ⊥ ⊥ ⊥
-proof_faults k s o (P.Asked authority proof) =
-    let w = who_in k.cells.session.locking authority in
-    pin_row k w (bytes_in s proof) (Lacks k o 0x1c) ⊥ (Unheard w ⊎ Over32 proof)
+abbrev pub proof_faults : Card → List ℕ → Object → Option Proof → Faults
+proof_faults k s o None = row (Lacks k o 0x1c) ⊥ Always ⊥ ⊥ ⊥ ⊥ ⊥
+proof_faults k s o (Some p) =
+    let w = who_in k.cells.session.locking p.authority in
+    pin_row k w (bytes_in s p.proof) (Lacks k o 0x1c) ⊥ (Unheard w ⊎ Over32 p.proof)
 
 -- ---- Get: "either left out meaning first or last"
 -- the column that is given, or z where it is left out
@@ -161,12 +158,12 @@ or z (S.List p) = z
 or z S.Named = z
 
 -- "unknown column, start column above end column"
-abbrev pub get_shape : Object → Block → Type 0
-get_shape o B.Broken = Always
-get_shape o (B.Of start end) = (last_of o < or 0 start) ⊎ ((last_of o < or (last_of o) end) ⊎ (or (last_of o) end < or 0 start))
+abbrev pub get_shape : Object → Option Block → Type 0
+get_shape o None = Always
+get_shape o (Some b) = (last_of o < or 0 b.start) ⊎ ((last_of o < or (last_of o) b.end) ⊎ (or (last_of o) b.end < or 0 b.start))
 
 -- columns that are not allowed are no fault of a Get
-abbrev pub get_faults : Card → Object → Block → Faults
+abbrev pub get_faults : Card → Object → Option Block → Faults
 get_faults k o x = row (Lacks k o 0x16) ⊥ (get_shape o x) ⊥ ⊥ ⊥ ⊥ ⊥
 
 -- ---- Set: "values, their types too"
@@ -198,7 +195,7 @@ abbrev pub BadResets : List ℕ → Slot → Type 0
 BadResets s S.Absent = ⊥
 BadResets s (S.Int v) = Always
 BadResets s (S.Bytes p n) = Always
-BadResets s (S.List p) = resets_at s p ≡ X.Broken
+BadResets s (S.List p) = resets_at s p ≡ None
 BadResets s S.Named = Always
 
 -- "judged on the row as it would stand": two ranges would share a sector, or one would end past N
@@ -228,10 +225,10 @@ abbrev pub SomeGiven : Columns → (ℕ → Type 0) → Type 0
 SomeGiven t P = (i : ℕ) × (i < 20) × (column_at t i ≢ S.Absent) × P i
 
 -- "parameter shape, repeated or unknown column (0C); a Set's columns not allowed (01); values, their types too (0C)"
-abbrev pub set_faults : Card → List ℕ → Object → Columns → Faults
-set_faults k s o t =
-    row (Lacks k o 0x17) ⊥ ((t.shape ≢ H.Good) ⊎ SomeGiven t (λ i. last_of o < i)) (SomeGiven t (λ i. MaySet k.cells.session o i → ⊥))
-    (BadValues k.cells s t o) ⊥ ⊥ ⊥
+abbrev pub set_faults : Card → List ℕ → Object → Result Columns Offence → Faults
+set_faults k s o (Err e) = row (Lacks k o 0x17) ⊥ Always ⊥ ⊥ ⊥ ⊥ ⊥
+set_faults k s o (Ok t) =
+    row (Lacks k o 0x17) ⊥ (SomeGiven t (λ i. last_of o < i)) (SomeGiven t (λ i. MaySet k.cells.session o i → ⊥)) (BadValues k.cells s t o) ⊥ ⊥ ⊥
 
 -- ---- Activate, Revert and RevertSP: "take no parameters", "then FAIL in a transaction"; who may is SID, or Admins
 abbrev pub bare_faults : Card → Object → ℕ → Out Values → Type 0 → Faults

@@ -17,7 +17,7 @@ ghost use Rattle.model.specs.Single.{OneOutcome};
 ghost use Rattle.model.specs.Short.{AnswersShort};
 
 use packet::{Hsn, Tsn};
-use ranges::{Edit, Flag, Mbr, ROWS, Row, Verdict};
+use ranges::{Edit, Mbr, ROWS, Row};
 
 // Admin1 to Admin4, User1 to User8
 pub const ADMINS: u8 = 4;
@@ -55,6 +55,7 @@ pub struct PinRow {
 
 #[derive(Clone, Copy)]
 pub struct Session {
+    // stays a flag: a record that is not sound may have a closed session with cells left over, and images and figures hold such
     pub live: bool,
     // to the Locking SP, or else to the Admin SP
     pub locking: bool,
@@ -66,6 +67,7 @@ pub struct Session {
 // An open transaction, and the tables from before it.
 #[derive(Clone, Copy)]
 pub struct Undo {
+    // stays a flag, for the same reason
     pub live: bool,
     pub was: Tables,
 }
@@ -83,7 +85,7 @@ pub struct Cells {
     pub undo: Undo,
 }
 
-// A PIN: its first len bytes, and zeros after them.
+// A PIN: its first len bytes, and zeros after them. The length stays beside the bytes: there is no heap, and the image has both.
 #[derive(Clone, Copy)]
 pub struct Secret {
     pub bytes: [u8; PIN_BYTES],
@@ -130,7 +132,7 @@ pub enum Who {
     Row(usize),
 }
 
-// One access row, all numbers: the object's kind, the method, the class of authorities, and the columns as a set of bits.
+// One access row, all numbers, as document 01 wants its form: the object's kind, the method, the class of authorities, and the columns as a set of bits.
 #[derive(Clone, Copy)]
 pub struct Access {
     pub kind: u8,
@@ -149,12 +151,12 @@ pub enum Status {
     Fail,
 }
 
-// What a Set asks of MBRControl.
+// What a Set asks of MBRControl: each column left out or its new value.
 #[derive(Clone, Copy)]
 pub struct MbrEdit {
-    pub enable: Flag,
-    pub done: Flag,
-    pub done_on_program: Flag,
+    pub enable: Option<bool>,
+    pub done: Option<bool>,
+    pub done_on_program: Option<bool>,
 }
 
 // Every change that a method makes to the tables or the PINs. Bytes are named by their place in the request.
@@ -213,18 +215,12 @@ pub enum Judged {
 }
 
 // What comes back of a request or a reset: the number, the count of answer bytes, and the record after it.
+// The number stays one, and a refusal has a record: law_literals and law_one_outcome speak of both.
 #[derive(Clone, Copy)]
 pub struct Outcome {
     pub number: u8,
     pub count: usize,
     pub card: Card,
-}
-
-// What comes back of a media question.
-#[derive(Clone, Copy)]
-pub enum Ruling {
-    Unsound,
-    Ruled(Verdict),
 }
 
 impl PinRow {
@@ -240,9 +236,8 @@ impl PinRow {
     pub fn missed(mut self) -> Self
         ensures { result ≡ missed_row self }
     {
-        let n = self.tries;
-        if n < TRY_LIMIT {
-            self.tries = n + 1;
+        if self.tries < TRY_LIMIT {
+            self.tries += 1;
         }
         self
     }
@@ -250,22 +245,15 @@ impl PinRow {
 
 impl Session {
     // "and the authority is proved"
-    pub fn proving(self, who: Who) -> Self
+    pub fn proving(mut self, who: Who) -> Self
         ensures { result ≡ proved_session self who }
     {
-        match who {
-            Who::Unknown => self,
-            Who::Anybody => self,
-            Who::Class => self,
-            Who::Row(r) => {
-                if r < PINS {
-                    let mut x = self;
-                    x.proved[r] = true;
-                    return x;
-                }
-                self
+        if let Who::Row(r) = who {
+            if r < PINS {
+                self.proved[r] = true;
             }
         }
+        self
     }
 }
 

@@ -1,4 +1,4 @@
 -- The laws that the proofs of `record` cite.
-pub mod Arrays
 pub mod Every
 pub mod Known
+pub mod Fitted

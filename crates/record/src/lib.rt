@@ -22,103 +22,58 @@ const MOST: u64 = 1099511627776;
 fn size_ok(n: u64) -> bool
     ensures { result ≡ size_ok n }
 {
-    if LEAST <= n {
-        return n <= MOST;
-    }
-    false
+    LEAST <= n && n <= MOST
 }
 
 // The rows fit, the global one has no numbers of its own, and SID is enabled.
+#[tactic(auto, using(crate::proofs::Fitted::fits_told), unfolding(model::specs::Sound::tables_ok))]
 fn tables_ok(n: u64, t: Tables) -> bool
     ensures { result ≡ tables_ok n t }
 {
-    let enabled = t.enabled;
-    if enabled[0] {
-        let rows = t.rows;
-        let global = rows[0];
-        if global.start == 0 {
-            if global.length == 0 {
-                return ranges::fits(rows, n);
-            }
-        }
-    }
-    false
+    let global = t.rows[0];
+    t.enabled[0] && global.start == 0 && global.length == 0 && ranges::fits(t.rows, n)
 }
 
 // "Tries ≤ 5"
 fn tries_ok(pins: [PinRow; PINS]) -> bool
     ensures { result ≡ tries_ok pins }
 {
-    let mut r: usize = 0;
-    while r < PINS {
-        let row = pins[r];
-        if TRY_LIMIT < row.tries {
-            return false;
-        }
-        r += 1;
-    }
-    true
+    pins.iter().all(|row| row.tries <= TRY_LIMIT)
 }
 
 // None of these flags is set from row first on.
 fn none_from(flags: [bool; PINS], first: usize) -> bool
     ensures { result ≡ none_from flags first }
 {
-    let mut r = first;
-    while r < PINS {
-        if flags[r] {
-            return false;
-        }
-        r += 1;
-    }
-    true
+    flags.iter().skip(first).all(|on| !*on)
 }
 
 // A session that is open, on these tables; where none is, its cells are empty.
+#[tactic(auto, using(crate::proofs::Known::known_locking), unfolding(model::specs::Sound::session_ok))]
 fn session_ok(t: Tables, s: Session) -> bool
     ensures { result ≡ session_ok t s }
 {
-    let proved = s.proved;
-    let tsn = s.tsn;
-    let hsn = s.hsn;
-    if s.live {
-        if tsn.0 == 0 {
-            return false;
-        }
-        if s.locking {
-            if t.active {
-                // SID is not known to the Locking SP
-                return !proved[0];
-            }
-            return false;
-        }
+    if s.live && s.locking {
+        // SID is not known to the Locking SP
+        s.tsn.0 != 0 && t.active && !s.proved[0]
+    } else if s.live {
         // and nobody else to the Admin SP
-        return none_from(proved, 1);
+        s.tsn.0 != 0 && none_from(s.proved, 1)
+    } else {
+        !s.locking && s.tsn.0 == 0 && s.hsn.0 == 0 && none_from(s.proved, 0)
     }
-    if s.locking {
-        return false;
-    }
-    if tsn.0 == 0 {
-        if hsn.0 == 0 {
-            return none_from(proved, 0);
-        }
-    }
-    false
 }
 
 // A PIN of 0 to 32 bytes, and zeros after them. The loop has no second way out, so that the machine takes many bytes in a step.
 fn secret_ok(x: Secret) -> bool
     ensures { result ≡ secret_ok x }
 {
-    let bytes = x.bytes;
-    let mut i = x.len as usize;
-    if PIN_BYTES < i {
+    let Some(past) = x.bytes.get(usize::from(x.len)..) else {
         return false;
-    }
-    let mut rest: u8 = 0;
-    while i < PIN_BYTES {
-        rest = rest | bytes[i];
-        i += 1;
+    };
+    let mut rest = 0;
+    for b in past {
+        rest |= *b;
     }
     rest == 0
 }
@@ -126,158 +81,78 @@ fn secret_ok(x: Secret) -> bool
 fn secrets_ok(l: [Secret; PINS]) -> bool
     ensures { result ≡ secrets_ok l }
 {
-    let mut r: usize = 0;
-    while r < PINS {
-        let x = l[r];
-        if secret_ok(x) {} else {
-            return false;
-        }
-        r += 1;
-    }
-    true
+    l.iter().all(|x| secret_ok(*x))
 }
 
 // ---- nothing is kept where no transaction is open
 
+#[tactic(auto, unfolding(model::specs::Sound::blank_row))]
 fn blank_row(r: Row) -> bool
     ensures { result ≡ blank_row r }
 {
-    if r.start != 0 {
-        return false;
-    }
-    if r.length != 0 {
-        return false;
-    }
-    if r.read_enabled {
-        return false;
-    }
-    if r.write_enabled {
-        return false;
-    }
-    if r.read_locked {
-        return false;
-    }
-    if r.write_locked {
-        return false;
-    }
-    !r.lock_on_program
+    r.start == 0
+        && r.length == 0
+        && !r.read_enabled
+        && !r.write_enabled
+        && !r.read_locked
+        && !r.write_locked
+        && !r.lock_on_program
 }
 
+#[tactic(auto, unfolding(model::specs::Sound::blank_mbr))]
 fn blank_mbr(m: Mbr) -> bool
     ensures { result ≡ blank_mbr m }
 {
-    if m.enable {
-        return false;
-    }
-    if m.done {
-        return false;
-    }
-    !m.done_on_program
+    !m.enable && !m.done && !m.done_on_program
 }
 
 fn blank_rows(rows: [Row; ROWS]) -> bool
     ensures { result ≡ all (λ i. blank_row (row_at rows i)) row_count }
 {
-    let mut i: usize = 0;
-    while i < ROWS {
-        let row = rows[i];
-        if blank_row(row) {} else {
-            return false;
-        }
-        i += 1;
-    }
-    true
+    rows.iter().all(|row| blank_row(*row))
 }
 
+#[tactic(auto, unfolding(model::specs::Sound::blank_tables))]
 fn blank_tables(t: Tables) -> bool
     ensures { result ≡ blank_tables t }
 {
-    if t.active {
-        return false;
-    }
-    if t.resettable {
-        return false;
-    }
-    let rows = t.rows;
-    let enabled = t.enabled;
-    if blank_mbr(t.mbr) {
-        if blank_rows(rows) {
-            return none_from(enabled, 0);
-        }
-    }
-    false
+    !t.active && !t.resettable && blank_mbr(t.mbr) && blank_rows(t.rows) && none_from(t.enabled, 0)
 }
 
 fn blank_secrets(l: [Secret; PINS]) -> bool
     ensures { result ≡ blank_secrets l }
 {
-    let mut r: usize = 0;
-    while r < PINS {
-        let x = l[r];
-        if x.len != 0 {
-            return false;
-        }
-        r += 1;
-    }
-    true
+    l.iter().all(|x| x.len == 0)
 }
 
 // The rollback copies: sound too where a transaction is open, and empty where none is.
+#[tactic(auto, unfolding(model::specs::Sound::undo_ok))]
 fn undo_ok(c: Cells, v: Vault) -> bool
     ensures { result ≡ undo_ok c v }
 {
-    let u = c.undo;
-    let was = u.was;
-    let s = c.session;
-    if u.live {
-        if s.live {
-            if tables_ok(c.n, was) {
-                return session_ok(was, s);
-            }
-        }
-        return false;
+    let was = c.undo.was;
+    if c.undo.live {
+        c.session.live && tables_ok(c.n, was) && session_ok(was, c.session)
+    } else {
+        blank_tables(was) && blank_secrets(v.kept)
     }
-    let kept = v.kept;
-    if blank_tables(was) {
-        return blank_secrets(kept);
-    }
-    false
 }
 
 // Whether the record is sound: every clause.
+#[tactic(auto, unfolding(model::specs::Sound::sound))]
 pub fn sound(card: Card) -> bool
     ensures { result ≡ sound card }
 {
     let c = card.cells;
-    let tables = c.tables;
-    let pins = c.pins;
-    let session = c.session;
-    let next = c.next;
     let v = card.vault;
-    let live = v.live;
-    let kept = v.kept;
-    if size_ok(c.n) {} else {
-        return false;
-    }
-    if tables_ok(c.n, tables) {} else {
-        return false;
-    }
-    if tries_ok(pins) {} else {
-        return false;
-    }
-    if next.0 == 0 {
-        return false;
-    }
-    if session_ok(tables, session) {} else {
-        return false;
-    }
-    if secrets_ok(live) {} else {
-        return false;
-    }
-    if secrets_ok(kept) {} else {
-        return false;
-    }
-    undo_ok(c, v)
+    size_ok(c.n)
+        && tables_ok(c.n, c.tables)
+        && tries_ok(c.pins)
+        && c.next.0 != 0
+        && session_ok(c.tables, c.session)
+        && secrets_ok(v.live)
+        && secrets_ok(v.kept)
+        && undo_ok(c, v)
 }
 
 // The MSID's bytes.
@@ -286,11 +161,7 @@ fn msid_of(msid: &[u8]) -> [u8; PIN_BYTES]
     ensures { result ≡ msid.now }
 {
     let mut bytes = [0; PIN_BYTES];
-    let mut i: usize = 0;
-    while i < PIN_BYTES {
-        bytes[i] = msid[i];
-        i += 1;
-    }
+    bytes.copy_from_slice(msid);
     bytes
 }
 

@@ -7,48 +7,29 @@ ghost use Rattle.model.specs.Vault.{same, part, decided, with_live, put_back, wi
 
 use model::{Change, Decision, Judged, PIN_BYTES, PINS, Secret, Vault};
 
-// How many of len bytes from at on there are.
-fn reach(s: &[u8], at: usize, len: usize) -> usize
-    ensures { result ≡ length (part s.now at len) }
+// The bytes from at on: len of them, or as many as there are.
+fn part(s: &[u8], at: usize, len: usize) -> &[u8]
+    ensures { result.now ≡ part s.now at len }
 {
-    if at < s.len() {
-        let rest = s.len() - at;
-        if rest < len {
-            return rest;
-        }
-        return len;
-    }
-    0
+    let rest = s.get(at..).unwrap_or(&[]);
+    rest.get(..len).unwrap_or(rest)
 }
 
 // Byte i of these, and 0 past the last.
-fn byte_of(s: &[u8], at: usize, len: usize, i: usize) -> u8
-    ensures { result ≡ get_or (part s.now at len) i 0 }
+fn byte_of(p: &[u8], i: usize) -> u8
+    ensures { result ≡ get_or p.now i 0 }
 {
-    let n = reach(s, at, len);
-    if i < n {
-        return s[at + i];
-    }
-    0
+    p.get(i).copied().unwrap_or(0)
 }
 
-// Whether len bytes of the request from at on are the PIN. Every byte is looked at, whatever is found on the way.
-fn matches(x: Secret, s: &[u8], at: usize, len: usize) -> bool
-    ensures { result ≡ same (pin_of x) (part s.now at len) }
+// Whether these bytes are the PIN. Every byte is looked at, whatever is found on the way.
+fn matches(x: Secret, sent: &[u8]) -> bool
+    ensures { result ≡ same (pin_of x) sent.now }
 {
-    let bytes = x.bytes;
-    let size = x.len as usize;
-    let stored = reach(&bytes, 0, size);
-    let sent = reach(s, at, len);
-    let mut equal = stored == sent;
-    let mut i: usize = 0;
-    while i < PIN_BYTES {
-        let want = byte_of(&bytes, 0, size, i);
-        let given = byte_of(s, at, len, i);
-        if given != want {
-            equal = false;
-        }
-        i += 1;
+    let stored = part(&x.bytes, 0, usize::from(x.len));
+    let mut equal = stored.len() == sent.len();
+    for i in 0..PIN_BYTES {
+        equal &= byte_of(stored, i) == byte_of(sent, i);
     }
     equal
 }
@@ -57,16 +38,14 @@ fn matches(x: Secret, s: &[u8], at: usize, len: usize) -> bool
 fn secret_at(l: [Secret; PINS], r: usize) -> Secret
     ensures { pin_of result ≡ pin_of (secret_at l r) }
 {
-    if r < PINS {
-        return l[r];
-    }
-    Secret {
+    l.get(r).copied().unwrap_or(Secret {
         bytes: [0; PIN_BYTES],
         len: 0,
-    }
+    })
 }
 
 // What is decided once the PIN, where one must be, is compared.
+#[tactic(auto, unfolding(model::specs::Vault::decided))]
 pub fn decided(v: Vault, s: &[u8], j: Judged) -> Decision
     ensures { result ≡ decided v s.now j }
 {
@@ -79,52 +58,41 @@ pub fn decided(v: Vault, s: &[u8], j: Judged) -> Decision
             equal,
             differs,
         } => {
-            let live = v.live;
-            let x = secret_at(live, row);
-            if matches(x, s, at, len) {
-                return equal;
+            if matches(secret_at(v.live, row), part(s, at, len)) {
+                equal
+            } else {
+                differs
             }
-            differs
         }
     }
 }
 
-// These bytes of the request as a PIN, and zeros after them.
-fn secret_of(s: &[u8], at: usize, len: usize) -> Secret
-    requires { len ≤ pin_bytes }
-    ensures { result ≡ secret_of (part s.now at len) }
+// These bytes as a PIN, and zeros after them.
+fn secret_of(p: &[u8]) -> Secret
+    requires { length p.now ≤ pin_bytes }
+    ensures { result ≡ secret_of p.now }
 {
-    let n = reach(s, at, len);
     let mut bytes = [0; PIN_BYTES];
-    let mut k: usize = 0;
-    while k < PIN_BYTES {
-        let given = byte_of(s, at, len, k);
-        bytes[k] = given;
-        k += 1;
-    }
+    bytes[..p.len()].copy_from_slice(p);
     Secret {
-        bytes: bytes,
-        len: n as u8,
+        bytes,
+        len: p.len() as u8,
     }
 }
 
 // With these PINs, and the copies as they are.
-fn with_live(v: Vault, l: [Secret; PINS]) -> Vault
-    ensures { result ≡ with_live v l }
+fn with_live(v: Vault, live: [Secret; PINS]) -> Vault
+    ensures { result ≡ with_live v live }
 {
-    let mut w = v;
-    w.live = l;
-    w
+    Vault { live, ..v }
 }
 
 // With the PIN of a row put anew.
-fn put(v: Vault, r: usize, x: Secret) -> Vault
+fn put(mut v: Vault, r: usize, x: Secret) -> Vault
     ensures { result ≡ with_live v (set v.live r x) }
 {
     if r < PINS {
-        let mut l = v.live;
-        l[r] = x;
-        return with_live(v, l);
+        v.live[r] = x;
     }
     v
 }
@@ -133,39 +101,25 @@ fn put(v: Vault, r: usize, x: Secret) -> Vault
 fn without_locking(v: Vault) -> Vault
     ensures { result ≡ with_live v (set no_secrets 0 (secret_at v.live 0)) }
 {
-    let old = v.live;
     let mut l = fresh::no_secrets();
-    l[0] = old[0];
+    l[0] = v.live[0];
     with_live(v, l)
 }
 
+#[tactic(auto, unfolding(model::specs::Vault::obey_change))]
 fn obey_change(v: Vault, msid: [u8; PIN_BYTES], s: &[u8], x: Change) -> Vault
     ensures { result ≡ obey_change msid s.now v x }
 {
     match x {
-        Change::Nothing => v,
-        Change::PutPin { row, at, len } => {
-            if len <= PIN_BYTES {
-                let p = secret_of(s, at, len);
-                return put(v, row, p);
-            }
-            v
-        }
-        Change::PutEnabled { row: _, on: _ } => v,
-        Change::PutRange { row: _, edit: _ } => v,
-        Change::PutMbr(_) => v,
-        Change::PutResettable(_) => v,
-        Change::Activate => {
-            let l = v.live;
-            let sid = l[0];
-            put(v, 1, sid)
-        }
-        Change::RevertLocking => without_locking(v),
-        Change::RevertAdmin => {
-            let l = fresh::factory_secrets(msid);
-            with_live(v, l)
-        }
-        Change::RevertSp => without_locking(v),
+        Change::PutPin { row, at, len } if len <= PIN_BYTES => put(
+            v,
+            row,
+            secret_of(part(s, at, len)),
+        ),
+        Change::Activate => put(v, 1, v.live[0]),
+        Change::RevertLocking | Change::RevertSp => without_locking(v),
+        Change::RevertAdmin => with_live(v, fresh::factory_secrets(msid)),
+        _ => v,
     }
 }
 
@@ -173,65 +127,40 @@ fn obey_change(v: Vault, msid: [u8; PIN_BYTES], s: &[u8], x: Change) -> Vault
 fn wiped(v: Vault) -> Vault
     ensures { result ≡ wiped v }
 {
-    let none = fresh::no_secrets();
-    let mut w = v;
-    w.kept = none;
-    w
+    Vault {
+        kept: fresh::no_secrets(),
+        ..v
+    }
 }
 
 // The copies are put back, and none is kept.
 fn put_back(v: Vault) -> Vault
     ensures { result ≡ put_back v }
 {
-    let copies = v.kept;
-    let w = with_live(v, copies);
-    wiped(w)
+    wiped(with_live(v, v.kept))
 }
 
 // An open transaction, if there is one, is given up.
 pub fn given_up(v: Vault, live: bool) -> Vault
     ensures { result ≡ given_up live v }
 {
-    if live {
-        return put_back(v);
-    }
-    wiped(v)
+    if live { put_back(v) } else { wiped(v) }
 }
 
 // What a decision makes of the PINs; live says whether a transaction is open.
+#[tactic(auto, unfolding(model::specs::Vault::obey))]
 pub fn obey(v: Vault, msid: [u8; PIN_BYTES], live: bool, s: &[u8], d: Decision) -> Vault
     ensures { result ≡ obey msid live s.now v d }
 {
     match d {
-        Decision::Refuse(_) => v,
-        Decision::NotStarted(_) => v,
-        Decision::Missed(_) => v,
-        Decision::Started {
-            locking: _,
-            hsn: _,
-            who: _,
-        } => v,
-        Decision::Denied => v,
-        Decision::Mistaken(_) => v,
-        Decision::Proved(_) => v,
-        Decision::Told {
-            object: _,
-            first: _,
-            last: _,
-        } => v,
         Decision::Done(x) => obey_change(v, msid, s, x),
         Decision::Began => {
-            let pins = v.live;
-            Vault {
-                live: pins,
-                kept: pins,
-            }
+            let kept = v.live;
+            Vault { kept, ..v }
         }
-        Decision::BeganAlready => v,
         Decision::Committed => wiped(v),
         Decision::Abandoned => put_back(v),
-        Decision::NoneOpen => v,
-        Decision::Ended => given_up(v, live),
-        Decision::Broke => given_up(v, live),
+        Decision::Ended | Decision::Broke => given_up(v, live),
+        _ => v,
     }
 }

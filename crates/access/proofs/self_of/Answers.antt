@@ -1,4 +1,4 @@
--- `self_of` meets its contract: the two kinds of row, and 0 for what is neither.
+-- `self_of` meets its contract: 0 for what is no row.
 use Prim.Native.Nat.{ℕ}
 use mathlib.Core.Path.{◌≡◌, refl, sym}
 use Rattle.model.specs.declared.Object.{Object}
@@ -20,14 +20,6 @@ no-row (O.Pin r) h k = absurd (k r refl)
 no-row (O.Range i) h k = refl
 no-row O.MbrControl h k = refl
 no-row O.Nothing h k = refl
-
-pub returns-in-Authority : goal.returns-in-Authority
-unfolding self_of
-returns-in-Authority c = simp c.in-Authority.is
-
-pub returns-in-Pin : goal.returns-in-Pin
-unfolding self_of
-returns-in-Pin c = simp c.in-Pin.is
 
 pub returns-in_default : goal.returns-in_default
 returns-in_default c = sym (no-row _ c.in_default.not-Authority c.in_default.not-Pin)

@@ -1,21 +1,9 @@
+-- `pins_at` reads the PINs, one after another.
 use borrow.Author.Rules.{rules}
 use Prim.Native.Nat.{ℕ, ◌+◌, ◌*◌}
-use mathlib.Core.Path.{refl}
-use native.Mathlib.Omega.{arith}
-use Rattle.image.specs.Read.{rows_from, pin_at}
-use Rattle.image.proofs.Arrays.{grown, ended}
+use Rattle.image.specs.Read.{pin_at}
+use Rattle.image.proofs.Arrays.{filled}
 use Rattle.image.proofs.pins_at.Goals as goal
 
-pub loop-i-init : goal.loop-i-init
-unfolding rows_from
-loop-i-init c = (search rules, search rules, refl)
-
-pub loop-i-preserved : goal.loop-i-preserved
-loop-i-preserved c = let a = c.args in
-    let l = c.loop-i in
-    (search rules, search rules, grown (λ (k : ℕ). pin_at a.s.now (a.p + 33 * k)) l.l l.i _ l.invariant.2 (omega arith) c.pin_at.ensures)
-
 pub returns : goal.returns
-returns c = let a = c.args in
-    let l = c.loop-i in
-    ended (λ (k : ℕ). pin_at a.s.now (a.p + 33 * k)) l.l l.i 13 (omega arith) l.invariant.1 l.invariant.2
+returns c = let a = c.args in filled (λ (k : ℕ). pin_at a.s.now (a.p + 33 * k)) (λ x r f' e. search rules) c.from_fn.ensures.items

@@ -6,4 +6,4 @@ use Rattle.image.proofs.put_undo.Goals as goal
 
 pub returns : goal.returns
 unfolding undo_of
-returns c = behind _ _ _ _ _ _ _ _ 1 123 c.put_flag-a.ensures c.put_tables.ensures (omega arith)
+returns c = behind _ _ _ _ _ _ _ _ 1 123 c.put-a.ensures c.put_tables.ensures (omega arith)

@@ -1,23 +1,14 @@
+-- `tries_at` reads the Tries of each PIN row.
 use borrow.Author.Rules.{rules}
 use Prim.Native.Nat.{ℕ, ◌+◌}
-use mathlib.Core.Path.{refl}
-use native.Mathlib.Omega.{arith}
 use lib.ListN.{get_or}
-use Rattle.image.specs.Read.{rows_from}
-use Rattle.image.proofs.Arrays.{grown, ended}
-use Rattle.image.proofs.tries_at.Invariants.{row}
+use Rattle.image.specs.Types.{PinRow}
+use Rattle.image.proofs.Arrays.{filled}
 use Rattle.image.proofs.tries_at.Goals as goal
 
-pub loop-i-init : goal.loop-i-init
-unfolding rows_from
-loop-i-init c = (search rules, search rules, refl)
-
-pub loop-i-preserved : goal.loop-i-preserved
-loop-i-preserved c = let a = c.args in
-    let l = c.loop-i in
-    (search rules, search rules, grown (λ (k : ℕ). row (get_or a.s.now (a.p + k) 0)) l.l l.i _ l.invariant.2 (omega arith) refl)
+row : ℕ → PinRow
+row n = record { tries = n }
 
 pub returns : goal.returns
-returns c = let a = c.args in
-    let l = c.loop-i in
-    ended (λ (k : ℕ). row (get_or a.s.now (a.p + k) 0)) l.l l.i 13 (omega arith) l.invariant.1 l.invariant.2
+unfolding row
+returns c = let a = c.args in filled (λ (k : ℕ). row (get_or a.s.now (a.p + k) 0)) (λ x r f' e. search rules) c.from_fn.ensures.items

@@ -1,30 +1,17 @@
-use mathlib.Core.Path.{sym, ◌∙◌}
-use native.Mathlib.Omega.{arith}
-use borrow.Author.Count.{below_more}
-use Rattle.ranges.specs.Row.{row_count}
-use Rattle.record.proofs.Every.{passed, failed}
+-- `blank_rows` meets its contract: the chain asks every row.
+use mathlib.Core.Path.{◌≡◌, ◌∙◌}
+use lib.ListN.{length}
+use borrow.Author.Rules.{rules}
+use Rattle.std.proofs.Common.{tests}
+use Rattle.std.proofs.lemmas.Iterator.{YieldsList-from_slice}
+use Rattle.std.proofs.lemmas.Iterator.Search.{all_from_yields_List}
+use Rattle.ranges.specs.Row.{row_count, no_row}
+use Rattle.model.specs.Sound.{blank_row}
+use Rattle.model.proofs.Fields.{mapped}
+use Rattle.record.proofs.Every.{all_rows}
 use Rattle.record.proofs.blank_rows.Goals as goal
 
-pub loop-i-init : goal.loop-i-init
-loop-i-init c = (omega arith, (λ k l. absurd (omega arith)))
-
-pub offset_bounds-rows-i : goal.offset_bounds-rows-i
-offset_bounds-rows-i c = omega arith
-
-pub bounds-rows-i : goal.bounds-rows-i
-bounds-rows-i c = omega arith
-
-pub returns-else-blank_row : goal.returns-else-blank_row
-returns-else-blank_row c = failed _ row_count c.loop-i.i (omega arith) (sym c.blank_row.ensures ∙ c.if-blank_row.false)
-
-pub overflow_add-i : goal.overflow_add-i
-overflow_add-i c = omega arith
-
-pub loop-i-smaller : goal.loop-i-smaller
-loop-i-smaller c = omega arith
-
-pub loop-i-preserved : goal.loop-i-preserved
-loop-i-preserved c = (omega arith, below_more _ _ c.loop-i.invariant.1 (sym c.blank_row.ensures ∙ c.if-blank_row.true))
-
 pub returns : goal.returns
-returns c = passed _ row_count c.loop-i.i (omega arith) c.loop-i.invariant.1
+returns c =
+    let many : length c.args.rows ≡ row_count = search (rules, mapped) in
+    all_from_yields_List blank_row _ _ _ c.all.ensures.ran (YieldsList-from_slice c.args.rows cc) (λ x b q k. search (rules, tests)) ∙ all_rows blank_row no_row c.args.rows row_count many

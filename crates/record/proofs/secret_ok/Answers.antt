@@ -1,63 +1,47 @@
-use Prim.Native.Nat.{ℕ, zero, suc, ◌≤◌, ◌+◌}
+use Prim.Native.Nat.{ℕ, zero, suc}
 use mathlib.Core.Path.{◌≡◌, refl, sym, ◌∙◌, ap, ap₂}
-use mathlib.Core.Bool.{◌&&◌, and-false}
-use mathlib.Core.List.{List}
+use mathlib.Core.Bool.{Bool, ◌&&◌}
 use native.Mathlib.Omega.{arith}
 use lib.Bits.{bit_or, or_zero_l, or_add_and, and_le_r}
 use lib.Dec.{eqb}
-use lib.ListN.{length, get_or}
+use lib.ListN.{length, drop}
 use borrow.Author.Rules.{rules}
 use borrow.Author.Tests.{le-leb, lt-leb, eq-eqb, ne_eqb}
-use Rattle.ranges.specs.Decides.{all}
+use Rattle.std.specs.List.{list_all}
+use Rattle.std.proofs.lemmas.List.{length-drop, take_all}
+use Rattle.std.proofs.lemmas.List.Folds.{list_all_more}
 use Rattle.model.specs.Record.{pin_bytes}
 use Rattle.model.specs.Sound.{secret_ok}
-use Rattle.record.proofs.Every.{passed, not-asked, asked}
-use Rattle.record.proofs.secret_ok.Invariants.{zero_at}
+use Rattle.record.proofs.Every.{all_from}
 use Rattle.record.proofs.secret_ok.Goals as goal
 
 -- an or is 0 where both parts are
-or-zero : (a b : ℕ) → eqb (bit_or a b) 0 ≡ eqb b 0 && eqb a 0
-or-zero zero zero = refl
-or-zero zero (suc b) = rw (or_zero_l (suc b), ne_eqb (suc b) 0 (λ e. omega arith)) refl
+or-zero : (a b : ℕ) → eqb (bit_or a b) 0 ≡ eqb a 0 && eqb b 0
+or-zero zero b = ap (λ x. eqb x 0) (or_zero_l b)
 or-zero (suc a) b =
     let sum = or_add_and (suc a) b in
     let less = and_le_r (suc a) b in
-    rw (ne_eqb (bit_or (suc a) b) 0 (λ e. omega arith), ne_eqb (suc a) 0 (λ e. omega arith)) (sym (and-false (eqb b 0)))
+    rw (ne_eqb (bit_or (suc a) b) 0 (λ e. omega arith), ne_eqb (suc a) 0 (λ e. omega arith)) refl
 
--- one byte more
-one_more : (bytes : List ℕ) (len i rest : ℕ) → len ≤ i → eqb rest 0 ≡ all (zero_at bytes len) i
-    → eqb (bit_or rest (get_or bytes i 0)) 0 ≡ all (zero_at bytes len) (i + 1)
-unfolding all
-one_more bytes len i rest l h =
-    let next : suc i ≡ i + 1 = omega arith in
-    or-zero rest (get_or bytes i 0) ∙ ap₂ ◌&&◌ (sym (asked len i l refl)) h ∙ ap (all (zero_at bytes len)) next
-
-pub returns-then-i-gt-PIN_BYTES : goal.returns-then-i-gt-PIN_BYTES
+pub returns-in_default : goal.returns-in_default
 unfolding secret_ok
-returns-then-i-gt-PIN_BYTES c = simp (lt-leb c.args.x.len pin_bytes (omega arith))
+returns-in_default c =
+    let many : length c.args.x.bytes ≡ pin_bytes = search rules in
+    simp (lt-leb c.args.x.len pin_bytes (omega (arith, c.in_default.ensures.lookup.0)))
 
-pub loop-i-init : goal.loop-i-init
-loop-i-init c = (omega arith, (omega arith, passed _ _ _ (omega arith) (not-asked _ _)))
-
-pub bounds-bytes-i : goal.bounds-bytes-i
-bounds-bytes-i c = omega arith
-
-pub overflow_add-i : goal.overflow_add-i
-overflow_add-i c = omega arith
-
-pub loop-i-smaller : goal.loop-i-smaller
-loop-i-smaller c = omega arith
-
-pub loop-i-preserved : goal.loop-i-preserved
-loop-i-preserved c =
-    let loop = c.loop-i in
-    (omega arith, (omega arith, one_more c.args.x.bytes _ _ loop.rest loop.invariant.0 loop.invariant.1.1))
+pub loop-b-preserved : goal.loop-b-preserved
+loop-b-preserved c =
+    let past = c.in-Some.past.now in
+    or-zero c.loop-b.rest _ ∙ ap₂ ◌&&◌ c.loop-b.invariant refl ∙ sym (list_all_more (λ b. eqb b 0) past c.loop-b.b-index 0 (omega arith))
 
 pub returns : goal.returns
 unfolding secret_ok
 returns c =
     let x = c.args.x in
     let many : length x.bytes ≡ pin_bytes = search rules in
-    let done : c.loop-i.i ≡ pin_bytes = omega arith in
-    rw (le-leb c.args.x.len pin_bytes (omega arith), eq-eqb _ _ many)
-    (c.loop-i.invariant.1.1 ∙ ap (all (zero_at x.bytes x.len)) done)
+    let cut = c.in-Some.ensures.lookup.0 in
+    let zero_b : ℕ → Bool = λ b. eqb b 0 in
+    let past : c.in-Some.past.now ≡ drop x.len x.bytes =
+    cut.2 ∙ take_all _ _ (omega (arith, length-drop c.from.result x.bytes)) ∙ ap (λ k. drop k x.bytes) c.from.ensures in
+    rw (le-leb x.len pin_bytes (omega (arith, cut.0)), eq-eqb _ _ many)
+    (c.loop-b.invariant ∙ ap (list_all zero_b) (take_all _ _ c.loop-b-test.false ∙ past) ∙ all_from zero_b 0 x.bytes x.len pin_bytes many)

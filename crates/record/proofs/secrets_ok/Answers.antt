@@ -1,41 +1,21 @@
-use mathlib.Core.Path.{◌≡◌, sym, ◌∙◌}
-use native.Mathlib.Omega.{arith}
+-- `secrets_ok` meets its contract: the chain asks every PIN.
+use mathlib.Core.Path.{◌≡◌, ◌∙◌}
+use mathlib.Core.List.{[]}
 use lib.ListN.{length}
 use borrow.Author.Rules.{rules}
 use borrow.Author.Tests.{eq-eqb}
-use borrow.Author.Count.{below_more}
+use Rattle.std.proofs.Common.{tests}
+use Rattle.std.proofs.lemmas.Iterator.{YieldsList-from_slice}
+use Rattle.std.proofs.lemmas.Iterator.Search.{all_from_yields_List}
 use Rattle.model.specs.Record.{pin_count}
-use Rattle.model.specs.Sound.{secrets_ok}
-use Rattle.record.proofs.Arrays.{mapped}
-use Rattle.record.proofs.Every.{passed, failed}
+use Rattle.model.specs.Sound.{secret_ok, secrets_ok}
+use Rattle.model.proofs.Fields.{mapped}
+use Rattle.record.proofs.Every.{all_rows}
 use Rattle.record.proofs.secrets_ok.Goals as goal
-
-pub loop-r-init : goal.loop-r-init
-loop-r-init c = (omega arith, (λ k l. absurd (omega arith)))
-
-pub offset_bounds-l-r : goal.offset_bounds-l-r
-offset_bounds-l-r c = omega arith
-
-pub bounds-l-r : goal.bounds-l-r
-bounds-l-r c = omega arith
-
-pub returns-else-secret_ok : goal.returns-else-secret_ok
-unfolding secrets_ok
-returns-else-secret_ok c =
-    let many : length c.args.l ≡ pin_count = search (rules, mapped) in
-    rw (eq-eqb _ _ many) (failed _ pin_count c.loop-r.r (omega arith) (sym c.secret_ok.ensures ∙ c.if-secret_ok.false))
-
-pub overflow_add-r : goal.overflow_add-r
-overflow_add-r c = omega arith
-
-pub loop-r-smaller : goal.loop-r-smaller
-loop-r-smaller c = omega arith
-
-pub loop-r-preserved : goal.loop-r-preserved
-loop-r-preserved c = (omega arith, below_more _ _ c.loop-r.invariant.1 (sym c.secret_ok.ensures ∙ c.if-secret_ok.true))
 
 pub returns : goal.returns
 unfolding secrets_ok
 returns c =
     let many : length c.args.l ≡ pin_count = search (rules, mapped) in
-    rw (eq-eqb _ _ many) (passed _ pin_count c.loop-r.r (omega arith) c.loop-r.invariant.1)
+    rw (eq-eqb _ _ many)
+    (all_from_yields_List secret_ok _ _ _ c.all.ensures.ran (YieldsList-from_slice c.args.l cc) (λ x b q k. search (rules, tests)) ∙ all_rows secret_ok (record { bytes = []; len = 0 }) c.args.l pin_count many)

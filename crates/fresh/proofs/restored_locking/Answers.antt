@@ -1,5 +1,0 @@
--- `restored_locking` is its definition, with what it calls put in.
-use Rattle.fresh.proofs.restored_locking.Goals as goal
-
-pub returns : goal.returns
-returns c = simp c.no_rows-rows.ensures
