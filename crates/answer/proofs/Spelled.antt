@@ -6,22 +6,20 @@ use mathlib.Core.List.{List, [], ◌∷◌, ◌++◌, append_assoc}
 use native.Mathlib.Omega.{arith}
 use lib.ListN.{length}
 use borrow.Author.Tests.{ne_eqb}
+use Rattle.std.specs.Int.{from_bool}
 use Rattle.token.specs.Bytes.{be_of}
 use Rattle.token.specs.Write.{enc_int, head_of, enc_bytes}
 use Rattle.token.proofs.Writes.{be-length}
 use Rattle.token.proofs.Forms.{enc-tiny, bytes-length, head-some}
 use Rattle.value.specs.Plain.{Plain, list, Plains, none, more}
 use Rattle.tape.specs.Write.{enc_atom, enc_value, enc_values}
-use Rattle.ranges.specs.declared.Row.{Row}
-use Rattle.ranges.specs.declared.Mbr.{Mbr}
 use Rattle.model.specs.declared.Cells.{Cells}
 use Rattle.model.specs.declared.Object.{Object}
-use Rattle.model.specs.declared.Decision.{Decision}
 use Rattle.model.specs.declared.Status.{Status}
 use Rattle.model.specs.declared.Status.TheVariants as E
 use Rattle.model.specs.Uids.{uid_of, manager_uid}
 use Rattle.model.specs.Access.{has_column}
-use Rattle.model.specs.Answer.{status_number, number, flag, uid, one, two, resets, result_of, manager_call, pin_cell, range_cell, mbr_cell, cell_past0, cell, answer}
+use Rattle.model.specs.Answer.{status_number, number, flag, uid, one, two, resets, result_of, manager_call, cell_past0, cell}
 use Rattle.answer.specs.Pieces.{ending, calling, column}
 
 -- ---- values
@@ -32,11 +30,9 @@ number_is v = refl
 pub tiny-is : (v : ℕ) → v < 64 → (v ∷ []) ≡ enc_value (number v)
 tiny-is v h = sym (enc-tiny v h) ∙ number_is v
 
-pub set_is : (on : Bool) → on ≡ true → (1 ∷ []) ≡ enc_value (flag on)
-set_is on e = rw e (tiny-is 1 (omega arith))
-
-pub unset-is : (on : Bool) → on ≡ false → (0 ∷ []) ≡ enc_value (flag on)
-unset-is on e = rw e (tiny-is 0 (omega arith))
+pub flag_is : (on : Bool) (x : ℕ) → x ≡ from_bool on → (x ∷ []) ≡ enc_value (flag on)
+flag_is true x e = rw e (tiny-is 1 (omega arith))
+flag_is false x e = rw e (tiny-is 0 (omega arith))
 
 pub uid-is : (u : ℕ) → (0xa8 ∷ be_of 8 u) ≡ enc_atom (uid u)
 unfolding enc_atom enc_bytes head_of
@@ -58,16 +54,6 @@ no-resets-is program e = rw e
 -- the column j of an object whose columns are f
 pub at-column : (f : ℕ → Plain) (j k : ℕ) (bs : List ℕ) → bs ≡ enc_value (f j) → k ≡ j → bs ≡ enc_value (f k)
 at-column f j k bs h e = rw e h
-
--- the columns that no test has named
-pub pin-rest : (c : Cells) (row k : ℕ) → (k ≡ 5 → ⊥) → (k ≡ 6 → ⊥) → pin_cell c row k ≡ flag false
-pin-rest c row k a b = rw (ne_eqb k 5 a, ne_eqb k 6 b)
-
-pub range-rest : (r : Row) (k : ℕ) → (k ≡ 3 → ⊥) → (k ≡ 4 → ⊥) → (k ≡ 5 → ⊥) → (k ≡ 6 → ⊥) → (k ≡ 7 → ⊥) → (k ≡ 8 → ⊥) → range_cell r k ≡ resets r.lock_on_program
-range-rest r k a b c d e f = rw (ne_eqb k 3 a, ne_eqb k 4 b, ne_eqb k 5 c, ne_eqb k 6 d, ne_eqb k 7 e, ne_eqb k 8 f)
-
-pub mbr-rest : (m : Mbr) (k : ℕ) → (k ≡ 1 → ⊥) → (k ≡ 2 → ⊥) → mbr_cell m k ≡ resets m.done_on_program
-mbr-rest m k a b = rw (ne_eqb k 1 a, ne_eqb k 2 b)
 
 -- "column 0 is the row's UID", and the others go by the object
 pub first_cell : (c : Cells) (o : Object) (k u : ℕ) → k ≡ 0 → u ≡ uid_of o → enc_atom (uid u) ≡ enc_value (cell c o k)
@@ -123,7 +109,3 @@ two_is m a b =
     ∙ append_assoc (calling m) (enc_int a) (enc_int b ++ ending E.Success)
     ∙ ap (λ (l : List ℕ). calling m ++ l) (sym (append_assoc (enc_int a) (enc_int b) (ending E.Success)))
     ∙ call-is m (two a b) (enc_int a ++ enc_int b) E.Success (append_assoc (enc_int a) (enc_int b) (0xf1 ∷ []))
-
--- the answer to a decision that is known
-pub reply-is : (c : Cells) (d e : Decision) (bs : List ℕ) → d ≡ e → bs ≡ answer c e → bs ≡ answer c d
-reply-is c d e bs p q = rw p q

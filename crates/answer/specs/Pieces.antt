@@ -1,7 +1,5 @@
 -- The pieces that answers are put together from, and what a writer of one leaves.
 use Rattle.std.specs.Prelude.{ℕ, ◌+◌, ◌-◌, ◌≤◌, ◌≡◌, cond, List, [], ◌∷◌, ◌++◌, length}
-use Rattle.token.specs.declared.Put.{Put}
-use Rattle.token.specs.declared.Put.TheVariants as P
 use Rattle.token.specs.Bytes.{over}
 use Rattle.tape.specs.Write.{enc_atom, enc_value}
 use Rattle.value.specs.Plain.{int, list, named}
@@ -17,12 +15,6 @@ pub record Wrote (n : ℕ) (d : List ℕ) (at : ℕ) (bs : List ℕ) (r : ℕ) (
   pub place : r ≡ at + length bs
   pub buffer : y ≡ over d at bs
   pub bound : r ≤ at + n
-
--- the place that a writer says, or the one from before
-unfoldable pub place_of : Put → ℕ → ℕ
-place_of (P.At q) at = q
-place_of P.Full at = at
-place_of P.Outside at = at
 
 -- the result list's end, F9 and the status list
 abbrev pub ending : Status → List ℕ

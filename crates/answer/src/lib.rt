@@ -12,11 +12,10 @@ ghost use Rattle.model.specs.declared.Decision.TheVariants as D;
 ghost use Rattle.model.specs.Record.{tries_at, enabled_at};
 ghost use Rattle.model.specs.Uids.{sync_session};
 ghost use Rattle.model.specs.Answer.{status_number, flag, uid, one, two, resets, result_of, manager_call, pin_cell, range_cell, mbr_cell, cell, answer};
-ghost use Rattle.answer.specs.Pieces.{Wrote, place_of, ending, calling, column, columns};
+ghost use Rattle.answer.specs.Pieces.{Wrote, ending, calling, column, columns};
 
-use model::{Cells, Decision, Object, PINS, Status};
-use ranges::{Mbr, ROWS, Row};
-use token::Put;
+use model::{Cells, Decision, Object, Status};
+use ranges::{Mbr, Row};
 
 // Where a payload starts.
 const START: usize = 56;
@@ -43,33 +42,19 @@ fn put_byte(out: &mut [u8], at: usize, b: u8) -> usize
     at + 1
 }
 
-// The place that a writer says, where there is room.
-fn place(p: Put, at: usize) -> usize
-    ensures { result ≡ place_of p at }
-{
-    match p {
-        Put::At(q) => q,
-        Put::Full => at,
-        Put::Outside => at,
-    }
-}
-
+// The place after it is the one that the writer says; there is room.
 fn put_int(out: &mut [u8], at: usize, v: u64) -> usize
     requires { at + 9 ≤ length out.old }
     ensures { Wrote 9 out.old at (enc_int v) result out.new }
 {
-    let p = token::put_int(out, at, v);
-    place(p, at)
+    token::put_int(out, at, v).unwrap_or(at)
 }
 
 fn put_flag(out: &mut [u8], at: usize, on: bool) -> usize
     requires { at + 1 ≤ length out.old }
     ensures { Wrote 1 out.old at (enc_value (flag on)) result out.new }
 {
-    if on {
-        return put_byte(out, at, 1);
-    }
-    put_byte(out, at, 0)
+    put_byte(out, at, u8::from(on))
 }
 
 // A UID as eight bytes.
@@ -78,8 +63,7 @@ fn put_uid(out: &mut [u8], at: usize, u: u64) -> usize
     ensures { Wrote 9 out.old at (enc_atom (uid u)) result out.new }
 {
     let a = put_byte(out, at, 0xa8);
-    let p = token::put_number(out, a, 8, u);
-    place(p, a)
+    token::put_number(out, a, 8, u).unwrap_or(a)
 }
 
 // "{0} or {0, 3}, written ascending"
@@ -89,11 +73,8 @@ fn put_resets(out: &mut [u8], at: usize, program: bool) -> usize
 {
     let a = put_byte(out, at, 0xf0);
     let b = put_byte(out, a, 0);
-    if program {
-        let c = put_byte(out, b, 3);
-        return put_byte(out, c, 0xf1);
-    }
-    put_byte(out, b, 0xf1)
+    let c = if program { put_byte(out, b, 3) } else { b };
+    put_byte(out, c, 0xf1)
 }
 
 // ---- the cells of each object by their columns; each takes 34 bytes at the most
@@ -101,11 +82,7 @@ fn put_resets(out: &mut [u8], at: usize, program: bool) -> usize
 fn tries_at(c: Cells, r: usize) -> u8
     ensures { result ≡ tries_at c r }
 {
-    if r < PINS {
-        let row = c.pins[r];
-        return row.tries;
-    }
-    0
+    c.pins.get(r).map_or(0, |row| row.tries)
 }
 
 // "TryLimit is 5", Tries, "Persistence False"
@@ -113,34 +90,23 @@ fn put_pin_cell(out: &mut [u8], at: usize, c: Cells, row: usize, k: u8) -> usize
     requires { at + 9 ≤ length out.old }
     ensures { Wrote 9 out.old at (enc_value (pin_cell c row k)) result out.new }
 {
-    if k == 5 {
-        return put_byte(out, at, 5);
+    match k {
+        5 => put_byte(out, at, 5),
+        6 => put_int(out, at, u64::from(tries_at(c, row))),
+        _ => put_flag(out, at, false),
     }
-    if k == 6 {
-        let tries = tries_at(c, row);
-        return put_int(out, at, tries as u64);
-    }
-    put_flag(out, at, false)
 }
 
 fn is_enabled(c: Cells, r: usize) -> bool
     ensures { result ≡ enabled_at c.tables r }
 {
-    let t = c.tables;
-    if r < PINS {
-        return t.enabled[r];
-    }
-    false
+    c.tables.enabled.get(r).copied().unwrap_or(false)
 }
 
 fn row_at(c: Cells, k: usize) -> Row
     ensures { result ≡ row_at c.tables.rows k }
 {
-    let t = c.tables;
-    if k < ROWS {
-        return t.rows[k];
-    }
-    Row {
+    c.tables.rows.get(k).copied().unwrap_or(Row {
         start: 0,
         length: 0,
         read_enabled: false,
@@ -148,7 +114,7 @@ fn row_at(c: Cells, k: usize) -> Row
         read_locked: false,
         write_locked: false,
         lock_on_program: false,
-    }
+    })
 }
 
 fn put_range_cell(out: &mut [u8], at: usize, row: Row, k: u8) -> usize
@@ -181,43 +147,29 @@ fn put_msid(out: &mut [u8], at: usize, c: Cells) -> usize
     requires { at + 34 ≤ length out.old }
     ensures { Wrote 34 out.old at (enc_atom (bytes c.msid)) result out.new }
 {
-    let msid = c.msid;
-    let p = token::put_bytes(out, at, &msid);
-    place(p, at)
+    token::put_bytes(out, at, &c.msid).unwrap_or(at)
 }
 
+#[tactic(auto, unfolding(model::specs::Answer::cell_past0))]
 fn put_cell(out: &mut [u8], at: usize, c: Cells, o: Object, k: u8) -> usize
     requires { at + 34 ≤ length out.old }
     ensures { Wrote 34 out.old at (enc_value (cell c o k)) result out.new }
 {
     // column 0 is the row's UID
     if k == 0 {
-        let u = access::uid_of(o);
-        return put_uid(out, at, u);
+        return put_uid(out, at, access::uid_of(o));
     }
-    let t = c.tables;
     match o {
         Object::PinSid => put_pin_cell(out, at, c, 0, k),
         Object::PinMsid => put_msid(out, at, c),
-        Object::TperInfo => put_flag(out, at, t.resettable),
+        Object::TperInfo => put_flag(out, at, c.tables.resettable),
         Object::SpAdmin => put_byte(out, at, 9),
-        Object::SpLocking => {
-            if t.active {
-                return put_byte(out, at, 9);
-            }
-            put_byte(out, at, 8)
-        }
+        Object::SpLocking => put_byte(out, at, if c.tables.active { 9 } else { 8 }),
         Object::ThisSp => put_byte(out, at, 0),
-        Object::Authority(r) => {
-            let on = is_enabled(c, r as usize);
-            put_flag(out, at, on)
-        }
-        Object::Pin(r) => put_pin_cell(out, at, c, r as usize, k),
-        Object::Range(i) => {
-            let row = row_at(c, i as usize);
-            put_range_cell(out, at, row, k)
-        }
-        Object::MbrControl => put_mbr_cell(out, at, t.mbr, k),
+        Object::Authority(r) => put_flag(out, at, is_enabled(c, usize::from(r))),
+        Object::Pin(r) => put_pin_cell(out, at, c, usize::from(r), k),
+        Object::Range(i) => put_range_cell(out, at, row_at(c, usize::from(i)), k),
+        Object::MbrControl => put_mbr_cell(out, at, c.tables.mbr, k),
         Object::Nothing => put_byte(out, at, 0),
     }
 }
@@ -227,13 +179,13 @@ fn put_column(out: &mut [u8], at: usize, set: u32, c: Cells, o: Object, k: u8) -
     requires { at + 45 ≤ length out.old }
     ensures { Wrote 45 out.old at (column set c o k) result out.new }
 {
-    if access::has_column(set, k) {
-        let a = put_byte(out, at, 0xf2);
-        let b = put_int(out, a, k as u64);
-        let d = put_cell(out, b, c, o, k);
-        return put_byte(out, d, 0xf3);
+    if !access::has_column(set, k) {
+        return at;
     }
-    at
+    let a = put_byte(out, at, 0xf2);
+    let b = put_int(out, a, u64::from(k));
+    let d = put_cell(out, b, c, o, k);
+    put_byte(out, d, 0xf3)
 }
 
 // "Get leaves out columns not allowed and lists the rest ascending": the inner list, from first to last.
@@ -241,20 +193,18 @@ fn put_columns(out: &mut [u8], at: usize, c: Cells, o: Object, first: u8, last: 
     requires { at + 1000 ≤ length out.old }
     ensures { Wrote 902 out.old at (columns c o first last) result out.new }
 {
-    let session = c.session;
-    let allowed = access::look_up(session, o, GET);
-    let end = last as usize + 1;
+    let allowed = access::look_up(c.session, o, GET);
     let mut p = put_byte(out, at, 0xf0);
-    let mut k = first as usize;
-    while k < end {
-        p = put_column(out, p, allowed.columns, c, o, k as u8);
-        k += 1;
+    for k in first..=last {
+        p = put_column(out, p, allowed.columns, c, o, k);
     }
     put_byte(out, p, 0xf1)
 }
 
 // ---- answers
 
+// stays a function: a conversion from Status belongs to the crate that has Status.
+#[tactic(auto, unfolding(model::specs::Answer::status_number))]
 fn status_number(k: Status) -> u8
     ensures { result ≡ status_number k }
 {
@@ -273,15 +223,9 @@ fn put_ending(out: &mut [u8], at: usize, k: Status) -> usize
     requires { at + 7 ≤ length out.old }
     ensures { Wrote 7 out.old at (ending k) result out.new }
 {
-    let status = status_number(k);
-    out[at] = 0xf1;
-    out[at + 1] = 0xf9;
-    out[at + 2] = 0xf0;
-    out[at + 3] = status;
-    out[at + 4] = 0;
-    out[at + 5] = 0;
-    out[at + 6] = 0xf1;
-    at + 7
+    let end = at + 7;
+    out[at..end].copy_from_slice(&[0xf1, 0xf9, 0xf0, status_number(k), 0, 0, 0xf1]);
+    end
 }
 
 // A call by the session manager, up to its list.
@@ -301,8 +245,8 @@ fn put_two(out: &mut [u8], at: usize, method: u64, a: u32, b: u32) -> usize
     ensures { Wrote 45 out.old at (manager_call method (two a b) E.Success) result out.new }
 {
     let p = put_calling(out, at, method);
-    let q = put_int(out, p, a as u64);
-    let s = put_int(out, q, b as u64);
+    let q = put_int(out, p, u64::from(a));
+    let s = put_int(out, q, u64::from(b));
     put_ending(out, s, Status::Success)
 }
 
@@ -354,6 +298,7 @@ fn put_told(out: &mut [u8], at: usize, c: Cells, o: Object, first: u8, last: u8)
 }
 
 // The payload, where there is room; the place after it.
+#[tactic(auto, unfolding(model::specs::Answer::answer))]
 fn put_answer(out: &mut [u8], c: Cells, d: Decision) -> usize
     requires { 2048 ≤ length out.old }
     ensures { Wrote 910 out.old 56 (answer c d) result out.new }
@@ -362,14 +307,7 @@ fn put_answer(out: &mut [u8], c: Cells, d: Decision) -> usize
         Decision::Refuse(k) => put_plain(out, START, k),
         Decision::NotStarted(k) => put_refused_start(out, START, k),
         Decision::Missed(_) => put_refused_start(out, START, Status::NotAuthorized),
-        Decision::Started {
-            locking: _,
-            hsn,
-            who: _,
-        } => {
-            let next = c.next;
-            put_two(out, START, SYNC_SESSION, hsn.0, next.0)
-        }
+        Decision::Started { hsn, .. } => put_two(out, START, SYNC_SESSION, hsn.0, c.next.0),
         Decision::Denied => put_one(out, START, false),
         Decision::Mistaken(_) => put_one(out, START, false),
         Decision::Proved(_) => put_one(out, START, true),
@@ -381,16 +319,10 @@ fn put_answer(out: &mut [u8], c: Cells, d: Decision) -> usize
         Decision::Done(_) => put_plain(out, START, Status::Success),
         Decision::Began => put_control(out, START, 0xfb, 0),
         Decision::BeganAlready => put_control(out, START, 0xfb, 1),
-        Decision::Committed => put_control(out, START, 0xfc, 0),
-        Decision::Abandoned => put_control(out, START, 0xfc, 0),
+        Decision::Committed | Decision::Abandoned => put_control(out, START, 0xfc, 0),
         Decision::NoneOpen => put_control(out, START, 0xfc, 1),
         Decision::Ended => put_byte(out, START, 0xfa),
-        Decision::Broke => {
-            let session = c.session;
-            let hsn = session.hsn;
-            let tsn = session.tsn;
-            put_two(out, START, CLOSE_SESSION, hsn.0, tsn.0)
-        }
+        Decision::Broke => put_two(out, START, CLOSE_SESSION, c.session.hsn.0, c.session.tsn.0),
     }
 }
 
@@ -402,6 +334,5 @@ pub fn answer(out: &mut [u8], c: Cells, d: Decision) -> usize
     if out.len() < ROOM {
         return 0;
     }
-    let end = put_answer(out, c, d);
-    end - START
+    put_answer(out, c, d) - START
 }

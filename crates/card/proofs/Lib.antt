@@ -1,4 +1,3 @@
 -- The laws that the proofs of `card` cite.
 pub mod Sealed
-pub mod Settled
 pub mod Opened

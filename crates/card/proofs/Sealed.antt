@@ -1,4 +1,6 @@
 -- The envelope around a payload that stands where it belongs.
+use Rattle.std.specs.Prelude.{Ok}
+use Rattle.std.specs.Result.{result_unwrap_or}
 use Prim.Native.Nat.{ℕ, ◌+◌, ◌≤◌, ◌<◌}
 use mathlib.Core.Path.{◌≡◌, refl, sym, ◌∙◌, ap, subst}
 use mathlib.Core.Bool.{Bool, true, false, cond}
@@ -8,7 +10,6 @@ use borrow.Author.Tests.{le-leb}
 use lib.ListN.{length, take, drop}
 use lib.Dec.{leb}
 use lib.Seq.{take_at, drop_at, drop-drop}
-use Rattle.token.specs.declared.Put.TheVariants as P
 use Rattle.token.specs.Bytes.{over}
 use Rattle.token.proofs.Writes.{over-length, over-drop}
 use Rattle.packet.specs.Envelope.{pad_of, packet_of, carried, seal_end, seal_all}
@@ -21,7 +22,6 @@ use Rattle.model.specs.Answer.{answer}
 use Rattle.model.specs.Step.{broke, framed}
 use Rattle.model.proofs.Short.{answer-short, answer-some}
 use Rattle.model.proofs.Framed.{packet_length}
-use Rattle.card.specs.Hear.{count_of}
 
 pad-small : (n : ℕ) → pad_of n < 4
 unfolding pad_of
@@ -47,7 +47,7 @@ module _ (d p : List ℕ) (t h : ℕ) (some : 1 ≤ length p) (few : length p �
       ∙ ap (drop n) (sym (drop-drop (length p) 56 (over d 56 p)) ∙ rw (over-drop d p 56 fits) (drop_at p (drop (56 + length p) d) (length p) refl))
       ∙ drop-drop n (56 + length p) d
 
-  pub sealed-end : seal_end (length (over d 56 p)) (length p) ≡ P.At (length (packet_of t h p))
+  pub sealed-end : seal_end (length (over d 56 p)) (length p) ≡ Ok (length (packet_of t h p))
   unfolding seal_end
   sealed-end = rw (carries, le-leb _ _ enough, packet_length t h p) refl
 
@@ -62,18 +62,17 @@ Stands old r last x = (r ≡ length x) × (last ≡ x ++ drop (length x) old)
 -- the payload of an answer is written, and then its envelope
 pub written : (c : Cells) (d : Decision) (old : List ℕ) (t h n : ℕ) (mid : List ℕ) (r : ℕ) (last : List ℕ) → length c.msid ≡ 32 → 2048 ≤ length old
     → n ≡ cond (leb 2048 (length old)) (length (answer c d)) 0 → mid ≡ cond (leb 2048 (length old)) (over old 56 (answer c d)) old
-    → r ≡ count_of (seal_end (length mid) n) → last ≡ seal_all mid t h n → Stands old r last (packet_of t h (answer c d))
-unfolding count_of
+    → r ≡ result_unwrap_or (seal_end (length mid) n) 0 → last ≡ seal_all mid t h n → Stands old r last (packet_of t h (answer c d))
 written c d old t h n mid r last m room p q e f =
     let on : leb 2048 (length old) ≡ true = le-leb _ _ room in
     let some = answer-some c d in
     let few = answer-short c d m in
     let n-is : n ≡ length (answer c d) = p ∙ ap (λ (b : Bool). cond b (length (answer c d)) 0) on in
     let mid-is : mid ≡ over old 56 (answer c d) = q ∙ ap (λ (b : Bool). cond b (over old 56 (answer c d)) old) on in
-    let ends : seal_end (length mid) n ≡ P.At (length (packet_of t h (answer c d))) = rw (mid-is, n-is) (sealed-end old (answer c d) t h some few room) in
+    let ends : seal_end (length mid) n ≡ Ok (length (packet_of t h (answer c d))) = rw (mid-is, n-is) (sealed-end old (answer c d) t h some few room) in
     let leaves : seal_all mid t h n ≡ packet_of t h (answer c d) ++ drop (length (packet_of t h (answer c d))) old
     = rw (mid-is, n-is) (sealed-all old (answer c d) t h some few room) in
-    (e ∙ ap count_of ends, f ∙ leaves)
+    (e ∙ ap (λ x. result_unwrap_or x 0) ends, f ∙ leaves)
 
 -- on 0, 0 where the payload was broken, and else for the request's own session
 module _ (c : Cells) (tsn : Tsn) (hsn : Hsn) (d : Decision) (old : List ℕ) (r : ℕ) (last : List ℕ) where

@@ -8,140 +8,97 @@ ghost use Rattle.model.specs.Judge.{is_number, number_in, is_flag, flag_in, is_r
 
 use item::Slot;
 use model::{Cells, Change, MbrEdit, Object, PIN_BYTES};
-use params::{COLUMNS, Columns, Resets};
-use ranges::{Edit, Flag, Number};
+use params::{Columns, Resets};
+use ranges::Edit;
 
 // The column's value, or absent.
 fn column(t: Columns, k: usize) -> Slot
     ensures { result ≡ column_at t k }
 {
-    if k < COLUMNS {
-        let rows = t.rows;
-        let row = rows[k];
-        return row.given;
-    }
-    Slot::Absent
+    t.rows.get(k).copied().unwrap_or(Slot::Absent)
 }
 
 // ---- kinds of values; a column that is left out is good, and keeps its value
 
+#[tactic(auto, unfolding(model::specs::Judge::is_number))]
 fn is_number(t: Columns, k: usize) -> bool
     ensures { result ≡ is_number (column_at t k) }
 {
-    let x = column(t, k);
-    match x {
-        Slot::Absent => true,
-        Slot::Int(_) => true,
-        Slot::Bytes { at: _, len: _ } => false,
-        Slot::List(_) => false,
-        Slot::Named => false,
-    }
+    matches!(column(t, k), Slot::Absent | Slot::Int(_))
 }
 
-fn number_in(t: Columns, k: usize) -> Number
+#[tactic(auto, unfolding(model::specs::Judge::number_in))]
+fn number_in(t: Columns, k: usize) -> Option<u64>
     ensures { result ≡ number_in (column_at t k) }
 {
-    let x = column(t, k);
-    match x {
-        Slot::Absent => Number::Keep,
-        Slot::Int(v) => Number::To(v),
-        Slot::Bytes { at: _, len: _ } => Number::Keep,
-        Slot::List(_) => Number::Keep,
-        Slot::Named => Number::Keep,
+    match column(t, k) {
+        Slot::Int(v) => Some(v),
+        _ => None,
     }
 }
 
+#[tactic(auto, unfolding(model::specs::Judge::is_flag))]
 fn is_flag(t: Columns, k: usize) -> bool
     ensures { result ≡ is_flag (column_at t k) }
 {
-    let x = column(t, k);
-    match x {
+    match column(t, k) {
         Slot::Absent => true,
         Slot::Int(v) => v < 2,
-        Slot::Bytes { at: _, len: _ } => false,
-        Slot::List(_) => false,
-        Slot::Named => false,
+        _ => false,
     }
 }
 
-fn flag_in(t: Columns, k: usize) -> Flag
+#[tactic(auto, unfolding(model::specs::Judge::flag_in))]
+fn flag_in(t: Columns, k: usize) -> Option<bool>
     ensures { result ≡ flag_in (column_at t k) }
 {
-    let x = column(t, k);
-    match x {
-        Slot::Absent => Flag::Keep,
-        Slot::Int(v) => Flag::To(v == 1),
-        Slot::Bytes { at: _, len: _ } => Flag::Keep,
-        Slot::List(_) => Flag::Keep,
-        Slot::Named => Flag::Keep,
+    match column(t, k) {
+        Slot::Int(v) => Some(v == 1),
+        _ => None,
     }
 }
 
 // "LockOnReset and DoneOnReset hold {0} or {0, 3}"
+#[tactic(auto, unfolding(model::specs::Judge::is_resets, model::specs::Judge::allowed_set))]
 fn is_resets(s: &[u8], t: Columns, k: usize) -> bool
     ensures { result ≡ is_resets s.now (column_at t k) }
 {
-    let x = column(t, k);
-    match x {
+    match column(t, k) {
         Slot::Absent => true,
-        Slot::Int(_) => false,
-        Slot::Bytes { at: _, len: _ } => false,
-        Slot::List(p) => {
-            let set = params::reset_set(s, p);
-            match set {
-                Resets::Power => true,
-                Resets::Program => true,
-                Resets::Broken => false,
-            }
-        }
-        Slot::Named => false,
+        Slot::List(p) => params::reset_set(s, p).is_some(),
+        _ => false,
     }
 }
 
-fn resets_in(s: &[u8], t: Columns, k: usize) -> Flag
+#[tactic(auto, unfolding(model::specs::Judge::resets_in, model::specs::Judge::with_program))]
+fn resets_in(s: &[u8], t: Columns, k: usize) -> Option<bool>
     ensures { result ≡ resets_in s.now (column_at t k) }
 {
-    let x = column(t, k);
-    match x {
-        Slot::Absent => Flag::Keep,
-        Slot::Int(_) => Flag::Keep,
-        Slot::Bytes { at: _, len: _ } => Flag::Keep,
-        Slot::List(p) => {
-            let set = params::reset_set(s, p);
-            match set {
-                Resets::Power => Flag::To(false),
-                Resets::Program => Flag::To(true),
-                Resets::Broken => Flag::To(false),
-            }
-        }
-        Slot::Named => Flag::Keep,
+    match column(t, k) {
+        Slot::List(p) => Some(matches!(params::reset_set(s, p), Some(Resets::Program))),
+        _ => None,
     }
 }
 
 // "a stored one 0 to 32"
+#[tactic(auto, unfolding(model::specs::Judge::is_pin))]
 fn is_pin(t: Columns, k: usize) -> bool
     ensures { result ≡ is_pin (column_at t k) }
 {
-    let x = column(t, k);
-    match x {
+    match column(t, k) {
         Slot::Absent => true,
-        Slot::Int(_) => false,
-        Slot::Bytes { at: _, len } => len <= PIN_BYTES,
-        Slot::List(_) => false,
-        Slot::Named => false,
+        Slot::Bytes { len, .. } => len <= PIN_BYTES,
+        _ => false,
     }
 }
 
-fn pin_change(r: usize, t: Columns, k: usize) -> Change
-    ensures { result ≡ pin_change r (column_at t k) }
+#[tactic(auto, unfolding(model::specs::Judge::pin_change))]
+fn pin_change(row: usize, t: Columns, k: usize) -> Change
+    ensures { result ≡ pin_change row (column_at t k) }
 {
-    let x = column(t, k);
-    match x {
-        Slot::Absent => Change::Nothing,
-        Slot::Int(_) => Change::Nothing,
-        Slot::Bytes { at, len } => Change::PutPin { row: r, at, len },
-        Slot::List(_) => Change::Nothing,
-        Slot::Named => Change::Nothing,
+    match column(t, k) {
+        Slot::Bytes { at, len } => Change::PutPin { row, at, len },
+        _ => Change::Nothing,
     }
 }
 
@@ -175,100 +132,60 @@ fn mbr_edit_in(s: &[u8], t: Columns) -> MbrEdit
 fn range_kinds(s: &[u8], t: Columns) -> bool
     ensures { result ≡ range_kinds s.now t }
 {
-    if is_number(t, 3) {
-        if is_number(t, 4) {
-            if is_flag(t, 5) {
-                if is_flag(t, 6) {
-                    if is_flag(t, 7) {
-                        if is_flag(t, 8) {
-                            return is_resets(s, t, 9);
-                        }
-                    }
-                }
-            }
-        }
-    }
-    false
+    is_number(t, 3)
+        && is_number(t, 4)
+        && is_flag(t, 5)
+        && is_flag(t, 6)
+        && is_flag(t, 7)
+        && is_flag(t, 8)
+        && is_resets(s, t, 9)
 }
 
 fn mbr_kinds(s: &[u8], t: Columns) -> bool
     ensures { result ≡ mbr_kinds s.now t }
 {
-    if is_flag(t, 1) {
-        if is_flag(t, 2) {
-            return is_resets(s, t, 3);
-        }
-    }
-    false
+    is_flag(t, 1) && is_flag(t, 2) && is_resets(s, t, 3)
 }
 
 // The values are good for the object, "judged on the row as it would stand".
+#[tactic(auto, unfolding(model::specs::Judge::values_ok))]
 pub fn values_ok(c: Cells, s: &[u8], t: Columns, o: Object) -> bool
     ensures { result ≡ values_ok c s.now t o }
 {
     match o {
-        Object::PinSid => is_pin(t, 3),
-        Object::PinMsid => true,
+        Object::PinSid | Object::Pin(_) => is_pin(t, 3),
         Object::TperInfo => is_flag(t, 8),
-        Object::SpAdmin => true,
-        Object::SpLocking => true,
-        Object::ThisSp => true,
         Object::Authority(_) => is_flag(t, 5),
-        Object::Pin(_) => is_pin(t, 3),
         Object::Range(k) => {
-            if range_kinds(s, t) {
-                let e = edit_in(s, t);
-                let tables = c.tables;
-                let rows = tables.rows;
-                let judged = ranges::set(rows, k as usize, e, c.n);
-                return judged.ok;
-            }
-            false
+            range_kinds(s, t)
+                && ranges::set(c.tables.rows, usize::from(k), edit_in(s, t), c.n).is_some()
         }
         Object::MbrControl => mbr_kinds(s, t),
-        Object::Nothing => true,
+        _ => true,
     }
 }
 
 // The change that the values ask for.
+#[tactic(auto, unfolding(model::specs::Judge::change_in, model::specs::Judge::flag_change))]
 pub fn change_in(s: &[u8], t: Columns, o: Object) -> Change
     ensures { result ≡ change_in s.now t o }
 {
     match o {
         Object::PinSid => pin_change(0, t, 3),
-        Object::PinMsid => Change::Nothing,
-        Object::TperInfo => {
-            let to = flag_in(t, 8);
-            match to {
-                Flag::Keep => Change::Nothing,
-                Flag::To(on) => Change::PutResettable(on),
-            }
-        }
-        Object::SpAdmin => Change::Nothing,
-        Object::SpLocking => Change::Nothing,
-        Object::ThisSp => Change::Nothing,
-        Object::Authority(r) => {
-            let to = flag_in(t, 5);
-            match to {
-                Flag::Keep => Change::Nothing,
-                Flag::To(on) => Change::PutEnabled {
-                    row: r as usize,
-                    on,
-                },
-            }
-        }
-        Object::Pin(r) => pin_change(r as usize, t, 3),
-        Object::Range(k) => {
-            let edit = edit_in(s, t);
-            Change::PutRange {
-                row: k as usize,
-                edit,
-            }
-        }
-        Object::MbrControl => {
-            let e = mbr_edit_in(s, t);
-            Change::PutMbr(e)
-        }
-        Object::Nothing => Change::Nothing,
+        Object::TperInfo => flag_in(t, 8).map_or(Change::Nothing, Change::PutResettable),
+        Object::Authority(r) => flag_in(t, 5).map_or(
+            Change::Nothing,
+            |on| Change::PutEnabled {
+                row: usize::from(r),
+                on,
+            },
+        ),
+        Object::Pin(r) => pin_change(usize::from(r), t, 3),
+        Object::Range(k) => Change::PutRange {
+            row: usize::from(k),
+            edit: edit_in(s, t),
+        },
+        Object::MbrControl => Change::PutMbr(mbr_edit_in(s, t)),
+        _ => Change::Nothing,
     }
 }

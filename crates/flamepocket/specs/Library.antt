@@ -1,10 +1,9 @@
 -- What the exported functions give back, and the image after them.
-use Rattle.std.specs.Prelude.{ℕ, not, ◌&&◌, cond, List, length, eqb}
+use Rattle.std.specs.Prelude.{ℕ, not, ◌&&◌, cond, List, length, eqb, Option, Some, None}
+use Rattle.ranges.specs.declared.Verdict.{Verdict}
 use Rattle.ranges.specs.declared.Verdict.TheVariants as T
 use Rattle.model.specs.declared.Card.{Card}
 use Rattle.model.specs.declared.Outcome.{Outcome}
-use Rattle.model.specs.declared.Ruling.{Ruling}
-use Rattle.model.specs.declared.Ruling.TheVariants as G
 use Rattle.model.specs.Record.{no_card}
 use Rattle.model.specs.Sound.{sound}
 use Rattle.model.specs.Step.{media}
@@ -31,11 +30,11 @@ abbrev pub sound_of : List ℕ → ℕ
 sound_of s = cond (image_ok s && sound (card_at s)) 0 1
 
 -- the number 1, and the verdicts
-unfoldable pub ruling_of : Ruling → ℕ
-ruling_of G.Unsound = 1
-ruling_of (G.Ruled T.Disk) = 0
-ruling_of (G.Ruled T.Shadow) = 2
-ruling_of (G.Ruled T.Refused) = 3
+unfoldable pub ruling_of : Option Verdict → ℕ
+ruling_of None = 1
+ruling_of (Some T.Disk) = 0
+ruling_of (Some T.Shadow) = 2
+ruling_of (Some T.Refused) = 3
 
 abbrev pub media_on : List ℕ → ℕ → ℕ → ℕ → ℕ
 media_on s write start count = cond (image_ok s) (ruling_of (media (card_at s) (not (eqb write 0)) start count)) 1

@@ -1,10 +1,9 @@
 -- Short histories from a factory record, with every number, byte and ruling that comes back.
-use Rattle.std.specs.Prelude.{ℕ, ◌+◌, ◌≡◌, List, [], ◌∷◌, ◌++◌, map, replicate}
+use Rattle.std.specs.Prelude.{ℕ, ◌+◌, ◌≡◌, List, [], ◌∷◌, ◌++◌, map, replicate, Some}
 use Rattle.token.specs.Bytes.{be_of}
 use Rattle.packet.specs.Envelope.{packet_of}
 use Rattle.ranges.specs.declared.Verdict.{Verdict}
 use Rattle.model.specs.declared.Card.{Card}
-use Rattle.model.specs.declared.Ruling.TheVariants as G
 use Rattle.model.specs.Record.{factory_card}
 use Rattle.model.specs.Uids as U
 use Rattle.model.specs.Step.{Event, packet, powered, run}
@@ -75,7 +74,7 @@ abbrev pub done : Back
 done = (0, [], not_shown)
 
 abbrev pub ruled : Verdict → Back
-ruled v = (0, [], shown (G.Ruled v))
+ruled v = (0, [], shown (Some v))
 
 abbrev pub synced : ℕ → Back
 synced tsn = answer (packet_of 0 0 (call U.manager_uid U.sync_session (0x81 ∷ 0x69 ∷ tsn ∷ [])))

@@ -1,6 +1,5 @@
 -- The five wrong cards that document 01 shuts out by name, each of the type of the right one, and told apart by a run.
-use Rattle.std.specs.Prelude.{ℕ, ◌+◌, ◌≡◌, true, cond, List, [], ◌∷◌, ◌≢◌, get_or, set}
-use Rattle.packet.specs.declared.Opened.TheVariants as O
+use Rattle.std.specs.Prelude.{ℕ, ◌+◌, ◌≡◌, true, cond, List, [], ◌∷◌, ◌≢◌, get_or, set, None}
 use Rattle.packet.specs.Envelope.{packet_of, opened_of}
 use Rattle.model.specs.declared.Card.{Card}
 use Rattle.model.specs.Record as R
@@ -63,4 +62,4 @@ pub record ShutOut : Type 0 where
   pub commits_early : ToldApart hasty locking
   pub invents_count : ToldApart inventive card
   -- and what it answers is no packet
-  pub sums : (e : Event) × (opened_of (inventive.shows card e) ≡ O.Broken)
+  pub sums : (e : Event) × (opened_of (inventive.shows card e) ≡ None)

@@ -1,11 +1,11 @@
 -- A Get's cell block: "unknown column, start column above end column (0C)".
-use Prim.Native.Nat.{ℕ, ◌≤◌, ◌<◌}
-use mathlib.Core.Path.{◌≡◌, refl, sym}
+use Prim.Native.Nat.{◌≤◌, ◌<◌}
+use Rattle.std.specs.Prelude.{Some}
+use mathlib.Core.Path.{◌≡◌, refl}
 use mathlib.Core.Bool.{Bool, true, false, ◌&&◌}
 use native.Mathlib.Omega.{arith}
 use borrow.Author.Tests.{le-leb, lt-leb}
-use Rattle.item.specs.declared.Slot.{Slot}
-use Rattle.params.specs.declared.Block.TheVariants as B
+use Rattle.params.specs.declared.Block.{Block}
 use Rattle.model.specs.declared.Object.{Object}
 use Rattle.model.specs.declared.Status.TheVariants as E
 use Rattle.model.specs.declared.Decision.{Decision}
@@ -16,32 +16,32 @@ use Rattle.model.specs.Access.{last_column}
 use Rattle.model.specs.Judge.{need, bound_of, judge_get}
 
 -- two checks that refuse alike: whichever fails
-refused-alike : (b : Bool) (d : Decision) → need b d (Settled d) ≡ Settled d
+refused_alike : (b : Bool) (d : Decision) → need b d (Settled d) ≡ Settled d
 unfolding need
-refused-alike true d = refl
-refused-alike false d = refl
+refused_alike true d = refl
+refused_alike false d = refl
 
-need-false : (d : Decision) (j : Judged) → need false d j ≡ Settled d
+need_false : (d : Decision) (j : Judged) → need false d j ≡ Settled d
 unfolding need
-need-false d j = refl
+need_false d j = refl
 
 no_end : (b : Bool) → (b && false) ≡ false
 no_end true = refl
 no_end false = refl
 
--- k is the last column that is known, and f and l are the block's first and last
-pub block-past : (o : Object) (start end : Slot) {k l : ℕ} → k ≡ last_column o → l ≡ bound_of k end → k < l → Settled (D.Refuse E.InvalidParameter) ≡ judge_get o (B.Of start end)
-unfolding judge_get need
-block-past o start end p q h = simp (sym p, sym q, lt-leb _ _ h, no_end)
+-- the block's first and last column, and the last that is known
+module _ (o : Object) (b : Block) where
+  pub block_past : last_column o < bound_of (last_column o) b.end → judge_get o (Some b) ≡ Settled (D.Refuse E.InvalidParameter)
+  unfolding judge_get need
+  block_past h = simp (lt-leb _ _ h, no_end)
 
-pub block-turned : (o : Object) (start end : Slot) {k f l : ℕ} → k ≡ last_column o → f ≡ bound_of 0 start → l ≡ bound_of k end → l < f
-    → Settled (D.Refuse E.InvalidParameter) ≡ judge_get o (B.Of start end)
-unfolding judge_get
-block-turned o start end p e q h = simp (sym p, sym e, sym q, lt-leb _ _ h, need-false, refused-alike)
+  pub block_turned : bound_of (last_column o) b.end < bound_of 0 b.start → judge_get o (Some b) ≡ Settled (D.Refuse E.InvalidParameter)
+  unfolding judge_get
+  block_turned h = simp (lt-leb _ _ h, need_false, refused_alike)
 
-pub block-told : (o : Object) (start end : Slot) {k f l : ℕ} → k ≡ last_column o → f ≡ bound_of 0 start → l ≡ bound_of k end → l ≤ k → f ≤ l
-    → Settled (D.Told o f l) ≡ judge_get o (B.Of start end)
-unfolding judge_get need
-block-told o start end {k} {f} {l} p e q h g =
-    let in-front : f ≤ k = omega arith in
-    simp (sym p, sym e, sym q, le-leb _ _ h, le-leb _ _ g, le-leb _ _ in-front)
+  pub block_told : bound_of (last_column o) b.end ≤ last_column o → bound_of 0 b.start ≤ bound_of (last_column o) b.end
+      → judge_get o (Some b) ≡ Settled (D.Told o (bound_of 0 b.start) (bound_of (last_column o) b.end))
+  unfolding judge_get need
+  block_told h g =
+      let in_front : bound_of 0 b.start ≤ last_column o = omega arith in
+      simp (le-leb _ _ h, le-leb _ _ g, le-leb _ _ in_front)

@@ -1,18 +1,16 @@
--- A StartSession that is heard at all.
-use Prim.Native.Nat.{ℕ}
-use mathlib.Core.Path.{◌≡◌}
-use mathlib.Core.Bool.{false}
-use mathlib.Core.List.{List}
-use borrow.Author.Tests.{eq-eqb}
-use Rattle.value.specs.Value.{Values}
-use Rattle.value.specs.Read.{Out}
-use Rattle.params.specs.Names.{given}
-use Rattle.params.specs.Params.{no_start, start_of}
+-- A StartSession on an SP that can be opened.
+use Rattle.std.specs.Prelude.{ℕ, ◌≡◌, true, false, List, Some}
+use Rattle.params.specs.declared.Start.{Start}
 use Rattle.model.specs.declared.Cells.{Cells}
-use Rattle.model.specs.Uids.{manager_uid, start_session}
-use Rattle.model.specs.Judge.{need, judge_start, judge_manager}
+use Rattle.model.specs.Uids.{admin_sp, locking_sp}
+use Rattle.model.specs.Judge.{need, judge_start}
+use Rattle.judge.specs.Asked.{start_on}
 
-pub heard : (c : Cells) (s : List ℕ) (object method : ℕ) (vs : Out Values) → object ≡ manager_uid → method ≡ start_session → c.session.live ≡ false
-    → judge_start c s (given no_start (start_of s) vs) ≡ judge_manager c s object method vs
-unfolding need judge_manager
-heard c s object method vs o m l = simp (eq-eqb _ _ o, eq-eqb _ _ m, l)
+module _ (c : Cells) (s : List ℕ) (t : Start) where
+  pub on_locking : t.sp ≡ locking_sp → c.tables.active ≡ true → judge_start c s (Some t) ≡ start_on c s true t.hsn t.write t.challenge t.authority
+  unfolding need judge_start start_on
+  on_locking e a = simp (e, a)
+
+  pub on_admin : t.sp ≡ admin_sp → judge_start c s (Some t) ≡ start_on c s false t.hsn t.write t.challenge t.authority
+  unfolding need judge_start start_on
+  on_admin e = simp e

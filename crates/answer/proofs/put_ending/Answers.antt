@@ -1,26 +1,8 @@
--- `put_ending` meets its contract: seven stores in a row.
+-- `put_ending` meets its contract: seven bytes in a row.
+use mathlib.Core.Path.{refl}
 use native.Mathlib.Omega.{arith}
-use lib.ListN.{length-set}
-use Rattle.answer.proofs.Written.{said, seven}
+use Rattle.answer.proofs.Written.{said, copied}
 use Rattle.answer.proofs.put_ending.Goals as goal
 
-pub bounds-out-at-2 : goal.bounds-out-at-2
-bounds-out-at-2 c = simp length-set (omega arith)
-
-pub bounds-out-at-3 : goal.bounds-out-at-3
-bounds-out-at-3 c = simp length-set (omega arith)
-
-pub bounds-out-at-4 : goal.bounds-out-at-4
-bounds-out-at-4 c = simp length-set (omega arith)
-
-pub bounds-out-at-5 : goal.bounds-out-at-5
-bounds-out-at-5 c = simp length-set (omega arith)
-
-pub bounds-out-at-6 : goal.bounds-out-at-6
-bounds-out-at-6 c = simp length-set (omega arith)
-
-pub bounds-out-at-7 : goal.bounds-out-at-7
-bounds-out-at-7 c = simp length-set (omega arith)
-
 pub returns : goal.returns
-returns c = said (seven _ _ _ _ _ _ _ _ _ (omega arith)) (rw c.status_number-status.ensures) (omega arith)
+returns c = said (copied _ _ _ _ _ c.copy_from_slice.ensures.after (omega arith)) (rw c.status_number.ensures refl) (omega arith)

@@ -10,4 +10,4 @@ use Rattle.answer.proofs.put_int.Goals as goal
 pub returns : goal.returns
 returns c =
     let v = c.args.v in
-    put true 9 _ _ _ _ (enc_int v) _ refl c.put_int-p.ensures.answer c.put_int-p.ensures.buffer c.place.ensures (int-short v) (omega arith)
+    put true 9 _ _ _ _ (enc_int v) _ refl c.put_int.ensures.answer c.put_int.ensures.buffer c.unwrap_or.ensures (int-short v) (omega arith)

@@ -13,7 +13,7 @@ use Rattle.answer.proofs.put_msid.Goals as goal
 pub returns : goal.returns
 unfolding enc_atom
 returns c =
-    let put-bytes = c.put_bytes-p in
+    let put-bytes = c.put_bytes in
     let bs = c.args.c.msid in
     let many : length bs ≡ 32 = search rules in
-    put _ 34 _ _ _ _ (enc_bytes bs) _ (lt-ltb (length bs) max_bytes (omega arith)) put-bytes.ensures.answer put-bytes.ensures.buffer c.place.ensures (msid-short bs many) (omega arith)
+    put _ 34 _ _ _ _ (enc_bytes bs) _ (lt-ltb (length bs) max_bytes (omega arith)) put-bytes.ensures.answer put-bytes.ensures.buffer c.unwrap_or.ensures (msid-short bs many) (omega arith)

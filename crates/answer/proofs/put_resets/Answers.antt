@@ -3,14 +3,14 @@ use native.Mathlib.Omega.{arith}
 use Rattle.answer.proofs.Written.{said, behind}
 use Rattle.answer.proofs.Spelled.{resets-is, no-resets-is}
 use Rattle.answer.proofs.put_resets.Goals as goal
-
-pub returns-then-program : goal.returns-then-program
-returns-then-program c =
-    let front = behind c.put_byte-a.ensures c.put_byte-b.ensures (omega arith) in
-    let both = behind front c.put_byte-c.ensures (omega arith) in
-    said (behind both c.put_byte.ensures (omega arith)) (resets-is _ c.if-program.true) (omega arith)
+use Rattle.answer.proofs.put_resets.Goals.{then-program, else-program}
 
 pub returns : goal.returns
 returns c =
     let front = behind c.put_byte-a.ensures c.put_byte-b.ensures (omega arith) in
-    said (behind front c.put_byte-2.ensures (omega arith)) (no-resets-is _ c.if-program.false) (omega arith)
+    elim c.if-program.branch [
+      | then-program w ↦
+          let both = behind front w.put_byte-c.ensures (omega arith) in
+          said (behind both (rw (w.out-is, w.c-is) at c.put_byte.ensures) (omega arith)) (resets-is _ w.if-program.true) (omega arith)
+      | else-program w ↦ said (behind front (rw (w.out-is, w.c-is) at c.put_byte.ensures) (omega arith)) (no-resets-is _ w.if-program.false) (omega arith)
+    ]

@@ -11,5 +11,5 @@ use Rattle.answer.proofs.put_uid.Goals as goal
 pub returns : goal.returns
 returns c =
     let u = c.args.u in
-    let digits = put true 8 _ _ _ _ (be_of 8 u) _ refl c.put_number-p.ensures.answer c.put_number-p.ensures.buffer c.place.ensures (omega (arith, be-length 8 u)) (omega arith) in
+    let digits = put true 8 _ _ _ _ (be_of 8 u) _ refl c.put_number.ensures.answer c.put_number.ensures.buffer c.unwrap_or.ensures (omega (arith, be-length 8 u)) (omega arith) in
     said (behind c.put_byte-a.ensures digits (omega arith)) (uid-is u) (omega arith)

@@ -1,19 +1,12 @@
 -- `known_columns` meets its contract: the bits below the one past the last column.
 use Prim.Native.Nat.{◌≤◌}
-use native.Mathlib.Omega.{arith}
 use lib.Pow.{pow_pos}
-use Rattle.judge.proofs.Known.{last-small, shifted, up_to}
+use Rattle.judge.proofs.Known.{last_small, shifted, up_to}
 use Rattle.judge.proofs.known_columns.Goals as goal
 use Rattle.judge.proofs.known_columns.Goals.{After-last_column-last}
 
 small : (c : After-last_column-last) → c.last_column-last.result ≤ 19
-small c = rw c.last_column-last.ensures (last-small c.args.o)
-
-pub overflow_add-result : goal.overflow_add-result
-overflow_add-result c = omega (arith, small c)
-
-pub overflow_shl-result : goal.overflow_shl-result
-overflow_shl-result c = omega (arith, small c)
+small c = rw c.last_column-last.ensures (last_small c.args.o)
 
 pub overflow_sub-result : goal.overflow_sub-result
 overflow_sub-result c = rw (shifted _ (small c)) (pow_pos _)

@@ -1,3 +1,0 @@
--- The laws that the proofs of `edits` cite.
-pub mod Ranges
-pub mod Arrays

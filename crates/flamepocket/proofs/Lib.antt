@@ -1,2 +1,0 @@
--- The laws that the proofs of `flamepocket` cite.
-pub mod Edge
