@@ -15,19 +15,16 @@ use Rattle.token.specs.Write.{put_all}
 use Rattle.token.proofs.Writes.{cond-all, all-length}
 use Rattle.line.specs.declared.Line.{Line}
 use Rattle.line.specs.declared.Line.TheVariants as L
-use Rattle.line.specs.declared.Found.{Found}
-use Rattle.line.specs.declared.Found.TheVariants as F
+use Rattle.std.specs.Prelude.{Option, Some, None, Result, Ok, Err, IfOk, ok_or}
+use Rattle.line.specs.declared.Why.{Why}
+use Rattle.line.specs.declared.Why.TheVariants as Y
 use Rattle.line.specs.declared.Verb.{Verb}
 use Rattle.line.specs.declared.Verb.TheVariants as B
-use Rattle.line.specs.declared.Num.{Num}
-use Rattle.line.specs.declared.Num.TheVariants as N
-use Rattle.line.specs.declared.Digits.{Digits}
-use Rattle.line.specs.declared.Digits.TheVariants as D
 use Rattle.line.specs.Words.{word_at, part}
 use Rattle.line.specs.Number.{decimal_of}
 use Rattle.line.specs.Hex.{bytes_of}
 use Rattle.line.specs.Write.{bytes_at, put_end}
-use Rattle.line.specs.Line.{number_at, hex_at, last, with_number, with_hex, said, verb_of, line_in, line_of}
+use Rattle.line.specs.Line.{on_ok, number_at, hex_at, last, said, verb_of, line_in, line_of}
 use Rattle.model.specs.declared.Outcome.{Outcome}
 use Rattle.model.specs.Sound.{sound}
 use Rattle.model.specs.Step.{made}
@@ -40,42 +37,37 @@ use Rattle.desk.specs.Desk.{Said, new_card, commanded, numbered, loaded, Roomy, 
 use Rattle.desk.proofs.Written.{put-there, turns}
 
 -- ---- a request's room is at most 65,536
-by_last : (f : Found) (l : Line) → Roomy l → Roomy (last f l)
-unfolding last
-by_last F.Nothing l h = h
-by_last (F.At p e) l h = tt
+abbrev Roomy_ok : Result Line Why → Type 0
+Roomy_ok r = IfOk r Roomy
 
-by_number : (n : Num) (k : ℕ → ℕ → Line) → ((v q : ℕ) → Roomy (k v q)) → Roomy (with_number n k)
-unfolding with_number
-by_number (N.Is v q) k h = h v q
-by_number (N.Not w) k h = tt
+by_ok : {A : Type 0} (r : Result A Why) (k : A → Result Line Why) → ((x : A) → Roomy_ok (k x)) → Roomy_ok (on_ok r k)
+by_ok (Ok x) k h = h x
+by_ok (Err w) k h = tt
 
-by-hex : (d : Digits) (k : ℕ → ℕ → ℕ → Line) → ((p n q : ℕ) → Roomy (k p n q)) → Roomy (with_hex d k)
-unfolding with_hex
-by-hex (D.Are p n q) k h = h p n q
-by-hex (D.Not w) k h = tt
+by_last : (f : Option (ℕ × ℕ)) (l : Line) → Roomy l → Roomy_ok (last f l)
+by_last None l h = h
+by_last (Some w) l h = tt
 
-by-verb : (s : List ℕ) (at : ℕ) (v : Verb) → Roomy (said s at v)
-unfolding said
-by-verb s at B.New = by_number (number_at s at) _ λ n q. by-hex (hex_at s q) _ λ p len r. by_last (word_at s r) (L.New n p len) tt
+by-verb : (s : List ℕ) (at : ℕ) (v : Verb) → Roomy_ok (said s at v)
+by-verb s at B.New = by_ok (number_at s at) _ λ x. by_ok (hex_at s x.1) _ λ y. by_last (word_at s y.2) (L.New x.0 y.0 y.1) tt
 by-verb s at B.Command =
-    by_number (number_at s at) _ λ n q.
-    cond-all Roomy (leb n 65536) _ _ (λ e. by-hex (hex_at s q) _ λ p len r. by_last (word_at s r) (L.Command n p len) (leb-true n 65536 e)) (λ _. tt)
+    by_ok (number_at s at) _ λ x.
+    cond-all Roomy_ok (leb x.0 65536) _ _ (λ e. by_ok (hex_at s x.1) _ λ y. by_last (word_at s y.2) (L.Command x.0 y.0 y.1) (leb-true x.0 65536 e)) (λ _. tt)
 by-verb s at B.Power = by_last (word_at s at) L.Power tt
 by-verb s at B.Reset = by_last (word_at s at) L.Reset tt
-by-verb s at B.Read = by_number (number_at s at) _ λ n q. by_number (number_at s q) _ λ m r. by_last (word_at s r) (L.Media _ n m) tt
-by-verb s at B.Write = by_number (number_at s at) _ λ n q. by_number (number_at s q) _ λ m r. by_last (word_at s r) (L.Media _ n m) tt
+by-verb s at B.Read = by_ok (number_at s at) _ λ x. by_ok (number_at s x.1) _ λ y. by_last (word_at s y.1) (L.Media _ x.0 y.0) tt
+by-verb s at B.Write = by_ok (number_at s at) _ λ x. by_ok (number_at s x.1) _ λ y. by_last (word_at s y.1) (L.Media _ x.0 y.0) tt
 by-verb s at B.Image = by_last (word_at s at) L.Image tt
-by-verb s at B.Load = by-hex (hex_at s at) _ λ p len r. by_last (word_at s r) (L.Load p len) tt
-by-verb s at B.Unknown = tt
+by-verb s at B.Load = by_ok (hex_at s at) _ λ y. by_last (word_at s y.2) (L.Load y.0 y.1) tt
 
-by_word : (s : List ℕ) (f : Found) → Roomy (line_in s f)
+by_word : (s : List ℕ) (f : Option (ℕ × ℕ)) → Roomy_ok (line_in s f)
 unfolding line_in
-by_word s F.Nothing = tt
-by_word s (F.At p e) = cond-all Roomy (eqb (get_or s p 0) 35) _ _ (λ _. tt) (λ _. by-verb s e (verb_of (part s p e)))
+by_word s None = tt
+by_word s (Some (p, e)) = cond-all Roomy_ok (eqb (get_or s p 0) 35) _ _ (λ _. tt) (λ _. by_ok (ok_or (verb_of (part s p e)) Y.Word) _ (λ v. by-verb s e v))
 
-pub roomy : (s : List ℕ) → Roomy (line_of s)
-roomy s = by_word s (word_at s 0)
+-- of a line that is read
+pub roomy : (s : List ℕ) (q : Line) → Ok q ≡ line_of s → Roomy q
+roomy s q e = rw (← e) at (by_word s (word_at s 0))
 
 -- ---- bytes are half as many as their digits
 halved : (l : List ℕ) → 2 * length (bytes_of l) ≤ length l
@@ -126,14 +118,6 @@ recommand s q u m n e f = rw (e, f)
 
 pub remake : (h : Bool) (s q u : List ℕ) (n : ℕ) → q ≡ u → new_card h s (made n q) ≡ new_card h s (made n u)
 remake h s q u n f = rw f
-
-pub or_right : (a b : Bool) → b ≡ true → (a || b) ≡ true
-or_right true b e = refl
-or_right false b e = e
-
-pub or_left : (a b : Bool) → b ≡ false → (a || b) ≡ a
-or_left true b e = refl
-or_left false b e = e
 
 pub makes : (h : Bool) (s d i y : List ℕ) (o : Outcome) (r k : ℕ) → r ≡ made_on (length s) o → i ≡ stored s o → Texted d (decimal_of r) k y
     → (there : Bool) → there ≡ h || eqb r 0 → Turned (new_card h s o) d (record { there = there; count = k }) i y

@@ -1,4 +1,5 @@
 -- The library's one number tells both: below 60 a request is turned away by it, from 60 on it counts the answer's bytes.
+use Rattle.std.specs.Prelude.{Option, Some, None}
 use Prim.Native.Nat.{ℕ, ◌+◌, ◌≤◌, ◌<◌}
 use mathlib.Core.Path.{◌≡◌, refl}
 use mathlib.Core.Bool.{Bool, true, false, not, cond}
@@ -10,8 +11,7 @@ use lib.ListN.{length, take, length-take}
 use lib.Seq.{take_at}
 use lib.Dec.{ltb, lit≤}
 use borrow.Author.Tests.{eq-eqb, ne_eqb}
-use Rattle.packet.specs.declared.Opened.{Opened}
-use Rattle.packet.specs.declared.Opened.TheVariants as O
+use Rattle.packet.specs.declared.Packet.{Packet}
 use Rattle.packet.specs.Envelope.{opened_of}
 use Rattle.payload.specs.declared.Payload.{Payload}
 use Rattle.payload.specs.declared.Payload.TheVariants as P
@@ -47,13 +47,16 @@ by-manager c tsn hsn s P.Commit = lit≤ tt
 by-manager c tsn hsn s P.Abandon = lit≤ tt
 by-manager c tsn hsn s P.Broken = lit≤ tt
 
-by-packet : (c : Cells) (s : List ℕ) (x : Opened) → Small (hear_packet c s x)
+by-packet : (c : Cells) (s : List ℕ) (x : Option Packet) → Small (hear_packet c s x)
 unfolding hear_packet
-by-packet c s (O.Packet tsn hsn start len) =
-    let r = take (start + len) s in
+by-packet c s (Some p) =
+    let tsn = p.tsn in
+    let hsn = p.hsn in
+    let start = p.start in
+    let r = take (start + p.len) s in
     cond_ind Small (is_manager tsn hsn) _ _ (λ _. by-manager c tsn hsn r (payload_at r start)) λ _.
     cond_ind Small (is_session c.session tsn hsn) (judged tsn hsn r (judge_session c r (payload_at r start))) (turned 5) (λ _. tt) (λ _. lit≤ tt)
-by-packet c s O.Broken = lit≤ tt
+by-packet c s None = lit≤ tt
 
 by-heard : (k : Card) (room : ℕ) (s : List ℕ) → Small (heard k room s)
 unfolding heard

@@ -7,16 +7,14 @@ use mathlib.Core.Logic.{◌≢◌}
 use lib.ListN.{length}
 use borrow.Author.Tests.{eq-eqb, ne_eqb, lt-ltb, le-ltb, le-leb, lt-leb}
 use Rattle.token.specs.Bytes.{over}
+use Rattle.std.specs.Prelude.{Ok, Err}
+use Rattle.line.specs.declared.Why.{Why}
 use Rattle.line.specs.declared.Line.{Line}
-use Rattle.line.specs.declared.Line.TheVariants as L
 use Rattle.line.specs.Line.{line_of}
 use Rattle.desk.specs.declared.After.{After}
-use Rattle.desk.specs.Texts.{no_card}
-use Rattle.desk.specs.Desk.{Said, still, in_hand, answer_to, Roomy, long_text, turn_of, turn_in, Texted, Turned}
+use Rattle.desk.specs.Texts.{no_card, why_text}
+use Rattle.desk.specs.Desk.{Said, still, in_hand, answer_to, heard, long_text, turn_of, turn_in, Texted, Turned}
 use Rattle.desk.proofs.Written.{turns}
-
-pub room_of : (q : Line) (room at len : ℕ) → q ≡ L.Command room at len → Roomy q → room ≤ 65536
-room_of q room at len e h = rw e at h
 
 -- nothing is said and nothing changes
 pub passes : (h : Bool) (s d : List ℕ) → Turned (still h s []) d (record { there = h; count = 0 }) s d
@@ -29,9 +27,9 @@ module _ (h : Bool) (s : List ℕ) where
   unfolding in_hand
   in-hand x e t = rw e t
 
-  pub said-in-hand : (t d y : List ℕ) (k : ℕ) → h ≡ true → Texted d t k y → Turned (in_hand h s (still true s t)) d (record { there = h; count = k }) s y
+  pub said-in-hand : (t d y : List ℕ) (k : ℕ) (r : After) → h ≡ true → Texted d t k y → r ≡ record { there = true; count = k } → Turned (in_hand h s (still true s t)) d r s y
   unfolding in_hand
-  said-in-hand t d y k e w = rw e (turns (still true s t) d s y true k w refl refl)
+  said-in-hand t d y k r e w f = rw (e, f) (turns (still true s t) d s y true k w refl refl)
 
   pub no-hand : (x : Said) (d y : List ℕ) (r : After) → h ≡ false → (r.there ≡ false) × Texted d no_card r.count y → Turned (in_hand h s x) d r s y
   unfolding in_hand
@@ -42,10 +40,14 @@ module _ (h : Bool) (s : List ℕ) where
   unfolding turn_of
   long-turn l d y r e w = rw (lt-ltb _ _ e) (record { there = w.0; count = w.1.count; image = refl; out = w.1.out })
 
-  pub short-turn : (l : List ℕ) (q : Line) {d i y : List ℕ} {r : After} → length l ≤ 32768 → q ≡ line_of l → Turned (answer_to h s l q) d r i y
+  pub short-turn : (l : List ℕ) (q : Line) {d i y : List ℕ} {r : After} → length l ≤ 32768 → Ok q ≡ line_of l → Turned (answer_to h s l q) d r i y
       → Turned (turn_of h s l) d r i y
-  unfolding turn_of
+  unfolding turn_of heard
   short-turn l q e f t = rw (le-ltb _ _ e, ← f) t
+
+  pub unread : (l d y : List ℕ) (w : Why) (k : ℕ) → length l ≤ 32768 → Err w ≡ line_of l → Texted d (why_text w) k y → Turned (turn_of h s l) d (record { there = h; count = k }) s y
+  unfolding turn_of heard
+  unread l d y w k e f t = rw (le-ltb _ _ e, ← f) (turns _ d s y h k t refl refl)
 
   -- ---- with the room that is needed, and without
   module _ (l : List ℕ) (room : ℕ) where

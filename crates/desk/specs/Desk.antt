@@ -1,8 +1,9 @@
 -- What the simulator answers to a line, and the card in hand after it. The card is the record's image; each question is the library's.
-use Rattle.std.specs.Prelude.{ℕ, ◌≤◌, ◌≡◌, Bool, true, ◌&&◌, ◌||◌, cond, List, [], ◌∷◌, ◌++◌, length, ltb, leb, eqb}
+use Rattle.std.specs.Prelude.{ℕ, ◌≤◌, ◌≡◌, Bool, true, ◌&&◌, ◌||◌, cond, List, [], ◌∷◌, ◌++◌, length, ltb, leb, eqb, Result, Ok, Err}
 use Rattle.token.specs.Bytes.{over}
 use Rattle.line.specs.declared.Line.{Line}
 use Rattle.line.specs.declared.Line.TheVariants as L
+use Rattle.line.specs.declared.Why.{Why}
 use Rattle.line.specs.Number.{decimal_of}
 use Rattle.line.specs.Write.{hex_text, bytes_at}
 use Rattle.line.specs.Line.{line_of, remark}
@@ -61,26 +62,23 @@ answer_to h s l L.Reset = in_hand h s (numbered s (on_image s (λ k. outcome_of 
 answer_to h s l (L.Media write start count) = in_hand h s (still true s (verdict_text (media_on s (direction write) start count)))
 answer_to h s l L.Image = in_hand h s (still true s (hex_text s))
 answer_to h s l (L.Load at len) = loaded h s (bytes_at l at len)
-answer_to h s l (L.Bad w) = still h s (why_text w)
+
+-- a line that can't be read gets the reason
+unfoldable pub heard : Bool → List ℕ → List ℕ → Result Line Why → Said
+heard h s l (Ok q) = answer_to h s l q
+heard h s l (Err w) = still h s (why_text w)
 
 -- a request's room is at most 65,536
 abbrev pub Roomy : Line → Type 0
-Roomy L.Pass = Unit {0}
-Roomy (L.New n at len) = Unit {0}
 Roomy (L.Command room at len) = room ≤ 65536
-Roomy L.Power = Unit {0}
-Roomy L.Reset = Unit {0}
-Roomy (L.Media write start count) = Unit {0}
-Roomy L.Image = Unit {0}
-Roomy (L.Load at len) = Unit {0}
-Roomy (L.Bad w) = Unit {0}
+Roomy _ = Unit {0}
 
 -- a line of more than 32,768 characters is not read, but a remark stays one
 unfoldable pub long_text : List ℕ → List ℕ
 long_text l = cond (remark l) [] too_long
 
 unfoldable pub turn_of : Bool → List ℕ → List ℕ → Said
-turn_of h s l = cond (ltb 32768 (length l)) (still h s (long_text l)) (answer_to h s l (line_of l))
+turn_of h s l = cond (ltb 32768 (length l)) (still h s (long_text l)) (heard h s l (line_of l))
 
 -- nothing is done without an image's bytes to change, or room for the longest text: up to 20 digits, a blank, 2,048 bytes in hex
 unfoldable pub turn_in : ℕ → Bool → List ℕ → List ℕ → Said

@@ -6,24 +6,14 @@ ghost use Rattle.desk.specs.Cut.{line_end, kept_end, kept, Pieces};
 pub fn line_end(s: &[u8]) -> usize
     ensures { (result ≡ line_end s.now) × (result ≤ length s.now) }
 {
-    let mut i = 0;
-    while i < s.len() {
-        if s[i] == b'\n' {
-            return i;
-        }
-        i += 1;
-    }
-    i
+    s.iter().position(|b| *b == b'\n').unwrap_or(s.len())
 }
 
 // The first n bytes of s, or all where it has fewer.
 pub fn front(s: &[u8], n: usize) -> &[u8]
     ensures { result.now ≡ take n s.now }
 {
-    if n <= s.len() {
-        return &s[..n];
-    }
-    s
+    s.get(..n).unwrap_or(s)
 }
 
 // What s has is put behind the line's first len bytes, as far as there is room: how long the line is then.
@@ -31,11 +21,11 @@ pub fn keep(line: &mut [u8], len: usize, s: &[u8]) -> usize
     ensures count { result ≡ kept_end (length line.old) len s.now }
     ensures buffer { line.new ≡ kept line.old len s.now }
 {
-    if len <= line.len() {
-        let room = line.len() - len;
-        return line::put_text(line, len, front(s, room));
+    if line.len() < len {
+        return len;
     }
-    len
+    let room = line.len() - len;
+    line::put_text(line, len, front(s, room))
 }
 
 // However the input is cut into pieces, a line ends at the same byte, and the same is kept of it.

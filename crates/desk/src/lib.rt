@@ -4,7 +4,7 @@
 
 pub mod cut;
 
-ghost use Rattle.std.specs.Prelude.{◌≡◌, false, ◌∷◌, ◌++◌, ◌+◌, ◌≤◌, length};
+ghost use Rattle.std.specs.Prelude.{◌≡◌, true, false, ◌∷◌, ◌++◌, ◌+◌, ◌≤◌, length};
 ghost use Rattle.line.specs.Number.{decimal_of};
 ghost use Rattle.line.specs.Write.{hex_text, bytes_at};
 ghost use Rattle.model.specs.Step.{made, outcome_of, power as Step·power, reset as Step·reset};
@@ -15,6 +15,7 @@ ghost use Rattle.desk.specs.Desk.{new_card, commanded, numbered, loaded, directi
 use line::{Line, Why};
 
 // What comes of a line: whether a card is in hand, and how long the text is; a line that is passed over has none.
+// The flag stays beside an image that the caller holds: its bytes are lent, with a card in hand or not.
 #[derive(Clone, Copy)]
 pub struct After {
     pub there: bool,
@@ -54,6 +55,7 @@ fn say_reply(out: &mut [u8], number: usize, s: &[u8]) -> usize
     line::put_hex(out, b, s)
 }
 
+#[tactic(auto, unfolding(crate::specs::Texts::why_text))]
 fn say_why(out: &mut [u8], w: Why) -> usize
     requires { 20 ≤ length out.old }
     ensures { Texted out.old (why_text w) result out.new }
@@ -71,37 +73,35 @@ fn say_why(out: &mut [u8], w: Why) -> usize
 }
 
 // By the number that a media question brings.
+// stays a number: the library's own functions are the ones that C calls
+#[tactic(auto, unfolding(crate::specs::Texts::verdict_text))]
 fn say_verdict(out: &mut [u8], r: usize) -> usize
     requires { 20 ≤ length out.old }
     ensures { Texted out.old (verdict_text r) result out.new }
 {
-    if r == 0 {
-        return say(out, b"disk");
+    match r {
+        0 => say(out, b"disk"),
+        2 => say(out, b"shadow"),
+        3 => say(out, b"refused"),
+        _ => say(out, b"1"),
     }
-    if r == 2 {
-        return say(out, b"shadow");
-    }
-    if r == 3 {
-        return say(out, b"refused");
-    }
-    say(out, b"1")
 }
 
-// ---- space, for the bytes of the longest line and for the longest answer that can be asked for
-
-fn line_space() -> [u8; 16384]
-    ensures { 16384 ≡ length result }
+// Zeros, for the bytes of the longest line and for the longest answer that can be asked for.
+fn zeros<const N: usize>() -> [u8; N]
+    ensures { N ≡ length result }
 {
-    [0; 16384]
-}
-
-fn answer_space() -> [u8; 65536]
-    ensures { 65536 ≡ length result }
-{
-    [0; 65536]
+    [0; N]
 }
 
 // ---- each kind of line
+
+// A text of count bytes, with a card in hand.
+fn in_hand(count: usize) -> After
+    ensures { result ≡ record { there = true; count = count } }
+{
+    After { there: true, count }
+}
 
 // A request, with the answer's buffer.
 fn ask(image: &mut [u8], q: &[u8], answer: &mut [u8], out: &mut [u8]) -> After
@@ -110,17 +110,9 @@ fn ask(image: &mut [u8], q: &[u8], answer: &mut [u8], out: &mut [u8]) -> After
 {
     let r = flamepocket::flamepocket_command(image, q, answer);
     if r < 60 {
-        let n = say_reply(out, r, b"");
-        return After {
-            there: true,
-            count: n,
-        };
+        return in_hand(say_reply(out, r, b""));
     }
-    let n = say_reply(out, 0, &answer[..r]);
-    After {
-        there: true,
-        count: n,
-    }
+    in_hand(say_reply(out, 0, &answer[..r]))
 }
 
 // A request that the line's digits say.
@@ -128,9 +120,9 @@ fn command(image: &mut [u8], l: &[u8], room: usize, at: usize, len: usize, out: 
     requires { (4117 ≤ length out.old) × (length l.now ≤ 32768) × (room ≤ 65536) }
     ensures { Turned (commanded image.old room (bytes_at l.now at len)) out.old result image.new out.new }
 {
-    let mut bytes = line_space();
+    let mut bytes: [u8; 16384] = zeros();
     let n = line::unhex(&mut bytes, l, at, len);
-    let mut answer = answer_space();
+    let mut answer: [u8; 65536] = zeros();
     ask(image, &bytes[..n], &mut answer[..room], out)
 }
 
@@ -140,14 +132,10 @@ fn make(image: &mut [u8], there: bool, n: u64, msid: &[u8], out: &mut [u8]) -> A
     ensures { Turned (new_card there image.old (made n msid.now)) out.old result image.new out.new }
 {
     let r = flamepocket::flamepocket_factory(image, n, msid);
-    let k = say_number(out, r);
-    if r == 0 {
-        return After {
-            there: true,
-            count: k,
-        };
+    After {
+        there: there || r == 0,
+        count: say_number(out, r),
     }
-    After { there, count: k }
 }
 
 // With the MSID that the line's digits say.
@@ -163,7 +151,7 @@ fn new(
     requires { (20 ≤ length out.old) × (length l.now ≤ 32768) }
     ensures { Turned (new_card there image.old (made n (bytes_at l.now at len))) out.old result image.new out.new }
 {
-    let mut bytes = line_space();
+    let mut bytes: [u8; 16384] = zeros();
     let m = line::unhex(&mut bytes, l, at, len);
     make(image, there, n, &bytes[..m], out)
 }
@@ -173,19 +161,14 @@ fn load(image: &mut [u8], there: bool, l: &[u8], at: usize, len: usize, out: &mu
     requires { (20 ≤ length out.old) × (length l.now ≤ 32768) × (length image.old ≡ 1188) }
     ensures { Turned (loaded there image.old (bytes_at l.now at len)) out.old result image.new out.new }
 {
-    let mut bytes = line_space();
+    let mut bytes: [u8; 16384] = zeros();
     let m = line::unhex(&mut bytes, l, at, len);
-    let r = flamepocket::flamepocket_sound(&bytes[..m]);
-    if r == 0 {
-        line::unhex(image, l, at, len);
-        let k = say(out, b"0");
-        return After {
-            there: true,
-            count: k,
-        };
+    if flamepocket::flamepocket_sound(&bytes[..m]) != 0 {
+        let count = say(out, b"1");
+        return After { there, count };
     }
-    let k = say(out, b"1");
-    After { there, count: k }
+    line::unhex(image, l, at, len);
+    in_hand(say(out, b"0"))
 }
 
 fn power(image: &mut [u8], out: &mut [u8]) -> After
@@ -193,11 +176,7 @@ fn power(image: &mut [u8], out: &mut [u8]) -> After
     ensures { Turned (numbered image.old (on_image image.old (λ k. outcome_of (Step·power k)))) out.old result image.new out.new }
 {
     let r = flamepocket::flamepocket_power_cycle(image);
-    let k = say_number(out, r);
-    After {
-        there: true,
-        count: k,
-    }
+    in_hand(say_number(out, r))
 }
 
 fn reset(image: &mut [u8], out: &mut [u8]) -> After
@@ -205,22 +184,14 @@ fn reset(image: &mut [u8], out: &mut [u8]) -> After
     ensures { Turned (numbered image.old (on_image image.old (λ k. outcome_of (Step·reset k)))) out.old result image.new out.new }
 {
     let r = flamepocket::flamepocket_tper_reset(image);
-    let k = say_number(out, r);
-    After {
-        there: true,
-        count: k,
-    }
+    in_hand(say_number(out, r))
 }
 
 fn media(image: &[u8], write: bool, start: u64, count: u64, out: &mut [u8]) -> usize
     requires { 20 ≤ length out.old }
     ensures { Texted out.old (verdict_text (media_on image.now (direction write) start count)) result out.new }
 {
-    if write {
-        let r = flamepocket::flamepocket_media(image, 1, start, count);
-        return say_verdict(out, r);
-    }
-    let r = flamepocket::flamepocket_media(image, 0, start, count);
+    let r = flamepocket::flamepocket_media(image, u8::from(write), start, count);
     say_verdict(out, r)
 }
 
@@ -228,14 +199,15 @@ fn no_card(out: &mut [u8]) -> After
     requires { 20 ≤ length out.old }
     ensures { (result.there ≡ false) × Texted out.old no_card result.count out.new }
 {
-    let k = say(out, b"? no card");
+    let count = say(out, b"? no card");
     After {
         there: false,
-        count: k,
+        count,
     }
 }
 
 // By what the line says; before there is a card, every question to it is answered so.
+// stays an if in each arm: under one guard for all of them the arms are reached on two ways, and each proof splits
 fn answer(image: &mut [u8], there: bool, l: &[u8], q: Line, out: &mut [u8]) -> After
     requires { (4117 ≤ length out.old) × (length l.now ≤ 32768) × (length image.old ≡ 1188) × Roomy q }
     ensures { Turned (answer_to there image.old l.now q) out.old result image.new out.new }
@@ -245,21 +217,24 @@ fn answer(image: &mut [u8], there: bool, l: &[u8], q: Line, out: &mut [u8]) -> A
         Line::New { n, at, len } => new(image, there, l, n, at, len, out),
         Line::Command { room, at, len } => {
             if there {
-                return command(image, l, room, at, len, out);
+                command(image, l, room, at, len, out)
+            } else {
+                no_card(out)
             }
-            no_card(out)
         }
         Line::Power => {
             if there {
-                return power(image, out);
+                power(image, out)
+            } else {
+                no_card(out)
             }
-            no_card(out)
         }
         Line::Reset => {
             if there {
-                return reset(image, out);
+                reset(image, out)
+            } else {
+                no_card(out)
             }
-            no_card(out)
         }
         Line::Media {
             write,
@@ -267,23 +242,19 @@ fn answer(image: &mut [u8], there: bool, l: &[u8], q: Line, out: &mut [u8]) -> A
             count,
         } => {
             if there {
-                let k = media(image, write, start, count, out);
-                return After { there, count: k };
+                in_hand(media(image, write, start, count, out))
+            } else {
+                no_card(out)
             }
-            no_card(out)
         }
         Line::Image => {
             if there {
-                let k = say_hex(out, image);
-                return After { there, count: k };
+                in_hand(say_hex(out, image))
+            } else {
+                no_card(out)
             }
-            no_card(out)
         }
         Line::Load { at, len } => load(image, there, l, at, len, out),
-        Line::Bad(w) => {
-            let k = say_why(out, w);
-            After { there, count: k }
-        }
     }
 }
 
@@ -295,8 +266,8 @@ fn too_long(there: bool, l: &[u8], out: &mut [u8]) -> After
     if line::is_remark(l) {
         return After { there, count: 0 };
     }
-    let k = say(out, b"? line too long");
-    After { there, count: k }
+    let count = say(out, b"? line too long");
+    After { there, count }
 }
 
 fn hear(image: &mut [u8], there: bool, l: &[u8], out: &mut [u8]) -> After
@@ -306,19 +277,21 @@ fn hear(image: &mut [u8], there: bool, l: &[u8], out: &mut [u8]) -> After
     if 32768 < l.len() {
         return too_long(there, l, out);
     }
-    let q = line::read(l);
-    answer(image, there, l, q, out)
+    match line::read(l) {
+        Ok(q) => answer(image, there, l, q, out),
+        Err(w) => {
+            let count = say_why(out, w);
+            After { there, count }
+        }
+    }
 }
 
 // A line to the card in hand, if there is one: the text to the front of out, and the card afterwards in image.
 pub fn turn(image: &mut [u8], there: bool, l: &[u8], out: &mut [u8]) -> After
     ensures { Turned (turn_in (length out.old) there image.old l.now) out.old result image.new out.new }
 {
-    if image.len() == 1188 {
-        if 4117 <= out.len() {
-            return hear(image, there, l, out);
-        }
+    if image.len() != 1188 || out.len() < 4117 {
         return After { there, count: 0 };
     }
-    After { there, count: 0 }
+    hear(image, there, l, out)
 }

@@ -1,6 +1,6 @@
 // Requests as a host writes them: the payload from byte 56 on, and the envelope around it.
 use packet::{Hsn, Tsn};
-use token::Put;
+use token::PutError;
 
 pub(crate) const ADMIN_SP: u64 = 0x0000020500000001;
 
@@ -40,33 +40,25 @@ const AUTHENTICATE: u64 = 0x000000060000001c;
 const HEADER: usize = 56;
 
 // Where a writer came to, or where it was if it refused.
-fn end(p: Put, at: usize) -> usize {
-    match p {
-        Put::At(q) => q,
-        Put::Full => at,
-        Put::Outside => at,
-    }
+fn end(p: Result<usize, PutError>, at: usize) -> usize {
+    p.unwrap_or(at)
 }
 
 // A field of n bytes, whatever stands there.
 pub(crate) fn field(out: &mut [u8], at: usize, n: usize, v: u64) -> usize {
-    let p = token::put_number(out, at, n, v);
-    end(p, at)
+    end(token::put_number(out, at, n, v), at)
 }
 
 fn int(out: &mut [u8], at: usize, v: u64) -> usize {
-    let p = token::put_int(out, at, v);
-    end(p, at)
+    end(token::put_int(out, at, v), at)
 }
 
 fn bytes(out: &mut [u8], at: usize, s: &[u8]) -> usize {
-    let p = token::put_bytes(out, at, s);
-    end(p, at)
+    end(token::put_bytes(out, at, s), at)
 }
 
 fn control(out: &mut [u8], at: usize, code: u8) -> usize {
-    let p = token::put_control(out, at, code);
-    end(p, at)
+    end(token::put_control(out, at, code), at)
 }
 
 fn uid(out: &mut [u8], at: usize, v: u64) -> usize {
@@ -76,10 +68,7 @@ fn uid(out: &mut [u8], at: usize, v: u64) -> usize {
 
 // How long the payload is that ends at at.
 fn length(at: usize) -> usize {
-    if at < HEADER {
-        return 0;
-    }
-    at - HEADER
+    at.saturating_sub(HEADER)
 }
 
 // A call up to its parameters.
@@ -100,28 +89,24 @@ fn foot(out: &mut [u8], at: usize) -> usize {
     length(t)
 }
 
+// A named value: what value writes there.
+fn named<F: FnOnce(&mut [u8], usize) -> usize>(
+    out: &mut [u8],
+    at: usize,
+    name: u64,
+    value: F,
+) -> usize
+    requires { F.IsAlwaysCallable value }
+{
+    let p = control(out, at, 0xf2);
+    let q = int(out, p, name);
+    let r = value(&mut *out, q);
+    control(out, r, 0xf3)
+}
+
 // The named integer.
 fn cell(out: &mut [u8], at: usize, name: u64, v: u64) -> usize {
-    let p = control(out, at, 0xf2);
-    let q = int(out, p, name);
-    let r = int(out, q, v);
-    control(out, r, 0xf3)
-}
-
-// The named bytes.
-fn named(out: &mut [u8], at: usize, name: u64, s: &[u8]) -> usize {
-    let p = control(out, at, 0xf2);
-    let q = int(out, p, name);
-    let r = bytes(out, q, s);
-    control(out, r, 0xf3)
-}
-
-// The named UID.
-fn whose(out: &mut [u8], at: usize, name: u64, who: u64) -> usize {
-    let p = control(out, at, 0xf2);
-    let q = int(out, p, name);
-    let r = uid(out, q, who);
-    control(out, r, 0xf3)
+    named(out, at, name, |o, p| int(o, p, v))
 }
 
 // A call with no parameters.
@@ -147,15 +132,15 @@ pub(crate) fn start(out: &mut [u8], hsn: u64, sp: u64) -> usize {
 // A StartSession as an authority, with its PIN.
 pub(crate) fn start_as(out: &mut [u8], hsn: u64, sp: u64, who: u64, pin: &[u8]) -> usize {
     let p = wanted(out, hsn, sp);
-    let q = named(out, p, 0, pin);
-    let r = whose(out, q, 3, who);
+    let q = named(out, p, 0, |o, at| bytes(o, at, pin));
+    let r = named(out, q, 3, |o, at| uid(o, at, who));
     foot(out, r)
 }
 
 pub(crate) fn authenticate(out: &mut [u8], who: u64, pin: &[u8]) -> usize {
     let p = head(out, THIS_SP, AUTHENTICATE);
     let q = uid(out, p, who);
-    let r = named(out, q, 0, pin);
+    let r = named(out, q, 0, |o, at| bytes(o, at, pin));
     foot(out, r)
 }
 
@@ -169,59 +154,31 @@ pub(crate) fn get(out: &mut [u8], object: u64, first: u64, last: u64) -> usize {
     foot(out, t)
 }
 
-// A Set up to its first column.
-fn set_head(out: &mut [u8], object: u64) -> usize {
+// A Set of these columns, each by its number, in this order.
+pub(crate) fn set(out: &mut [u8], object: u64, columns: &[(u64, u64)]) -> usize {
     let p = head(out, object, SET);
-    let q = control(out, p, 0xf2);
-    let r = int(out, q, 1);
-    control(out, r, 0xf0)
-}
-
-// A Set from the end of its columns on.
-fn set_foot(out: &mut [u8], at: usize) -> usize {
-    let p = control(out, at, 0xf1);
-    let q = control(out, p, 0xf3);
+    let q = named(out, p, 1, |o, at| {
+        let mut end = control(o, at, 0xf0);
+        for (column, v) in columns {
+            end = cell(o, end, *column, *v);
+        }
+        control(o, end, 0xf1)
+    });
     foot(out, q)
-}
-
-// A Set of one column.
-pub(crate) fn set(out: &mut [u8], object: u64, column: u64, v: u64) -> usize {
-    let p = set_head(out, object);
-    let q = cell(out, p, column, v);
-    set_foot(out, q)
-}
-
-// A Set of a range's start and length.
-pub(crate) fn span(out: &mut [u8], range: u64, start: u64, count: u64) -> usize {
-    let p = set_head(out, range);
-    let q = cell(out, p, 3, start);
-    let r = cell(out, q, 4, count);
-    set_foot(out, r)
-}
-
-// The same with the length first.
-pub(crate) fn span_back(out: &mut [u8], range: u64, start: u64, count: u64) -> usize {
-    let p = set_head(out, range);
-    let q = cell(out, p, 4, count);
-    let r = cell(out, q, 3, start);
-    set_foot(out, r)
 }
 
 // A control token alone, as FA.
 pub(crate) fn one(out: &mut [u8], code: u8) -> usize {
-    let p = control(out, HEADER, code);
-    length(p)
+    length(control(out, HEADER, code))
 }
 
 // A control token and its number, as FB 00.
 pub(crate) fn pair(out: &mut [u8], code: u8, v: u64) -> usize {
     let p = control(out, HEADER, code);
-    let q = int(out, p, v);
-    length(q)
+    length(int(out, p, v))
 }
 
 // The envelope around a payload of n bytes; the whole length.
 pub(crate) fn sealed(out: &mut [u8], tsn: Tsn, hsn: Hsn, n: usize) -> usize {
-    let p = packet::seal(out, tsn, hsn, n);
-    end(p, 0)
+    end(packet::seal(out, tsn, hsn, n), 0)
 }

@@ -1,12 +1,11 @@
 // The figures on ranges: a disk of 1,000,000 sectors, with range 1 at 1,000 for 100.
-use crate::say;
-use ranges::{Edit, Flag, Mbr, Number, ROWS, Row, Verdict};
+use ranges::{Edit, Mbr, ROWS, Row, Verdict};
 use std::io;
 
 fn row(start: u64, length: u64) -> Row {
     Row {
-        start: start,
-        length: length,
+        start,
+        length,
         read_enabled: false,
         write_enabled: false,
         read_locked: false,
@@ -24,46 +23,28 @@ fn rows() -> [Row; ROWS] {
 
 fn span(start: u64, length: u64) -> Edit {
     Edit {
-        start: Number::To(start),
-        length: Number::To(length),
-        read_enabled: Flag::Keep,
-        write_enabled: Flag::Keep,
-        read_locked: Flag::Keep,
-        write_locked: Flag::Keep,
-        lock_on_program: Flag::Keep,
+        start: Some(start),
+        length: Some(length),
+        read_enabled: None,
+        write_enabled: None,
+        read_locked: None,
+        write_locked: None,
+        lock_on_program: None,
     }
 }
 
 fn put(rt: &impl Print, k: usize, start: u64, length: u64, n: u64) -> io::Result<()> {
-    let e = span(start, length);
-    let j = ranges::set(rows(), k, e, n);
-    say::text(rt, b"  range ")?;
-    say::size(rt, k)?;
-    say::text(rt, b" at ")?;
-    say::number(rt, start)?;
-    say::text(rt, b" for ")?;
-    say::number(rt, length)?;
-    if j.ok {
-        say::text(rt, b" is allowed\n")?;
-    } else {
-        say::text(rt, b" is refused\n")?;
-    }
-    Ok(())
+    let j = ranges::set(rows(), k, span(start, length), n);
+    let word = if j.is_some() { "allowed" } else { "refused" };
+    println!(rt; "  range {k} at {start} for {length} is {word}")
 }
 
 pub(crate) fn said(rt: &impl Print, v: Verdict) -> io::Result<()> {
     match v {
-        Verdict::Disk => {
-            say::text(rt, b" is from disk\n")?;
-        }
-        Verdict::Shadow => {
-            say::text(rt, b" is from the shadow\n")?;
-        }
-        Verdict::Refused => {
-            say::text(rt, b" is refused\n")?;
-        }
+        Verdict::Disk => println!(rt; " is from disk"),
+        Verdict::Shadow => println!(rt; " is from the shadow"),
+        Verdict::Refused => println!(rt; " is refused"),
     }
-    Ok(())
 }
 
 fn transfer(
@@ -74,31 +55,24 @@ fn transfer(
     start: u64,
     count: u64,
 ) -> io::Result<()> {
-    if write {
-        say::text(rt, b"  a write of ")?;
-    } else {
-        say::text(rt, b"  a read of ")?;
-    }
-    say::number(rt, count)?;
-    say::text(rt, b" at ")?;
-    say::number(rt, start)?;
-    let v = ranges::media(rows, mbr, true, 1000000, write, start, count);
-    said(rt, v)
+    let what = if write { "write" } else { "read" };
+    print!(rt; "  a {what} of {count} at {start}")?;
+    said(
+        rt,
+        ranges::media(rows, mbr, true, 1000000, write, start, count),
+    )
 }
 
 pub(crate) fn run(rt: &impl Print) -> io::Result<()> {
-    let most = 18446744073709551615;
-    say::text(rt, b"Range 2 beside range 1\n")?;
+    let most = u64::MAX;
+    println!(rt; "Range 2 beside range 1")?;
     put(rt, 2, 1100, 1, 1000000)?;
     put(rt, 2, 1099, 1, 1000000)?;
     put(rt, 2, 1050, 0, 1000000)?;
     put(rt, 2, 999999, 1, 1000000)?;
     put(rt, 2, 1000000, 1, 1000000)?;
     put(rt, 2, most, 2, 1000000)?;
-    say::text(
-        rt,
-        b"Numbers at their ends, a row that is not there, the global row\n",
-    )?;
+    println!(rt; "Numbers at their ends, a row that is not there, the global row")?;
     put(rt, 2, most, most, 1000000)?;
     put(rt, 2, 0, most, 1099511627776)?;
     put(rt, 2, most, 0, 1099511627776)?;
@@ -106,7 +80,7 @@ pub(crate) fn run(rt: &impl Print) -> io::Result<()> {
     put(rt, 2, 1100, 261045, 262144)?;
     put(rt, ROWS, 0, 0, 1000000)?;
     put(rt, 0, 0, 1, 1000000)?;
-    say::text(rt, b"Shadow on\n")?;
+    println!(rt; "Shadow on")?;
     let on = Mbr {
         enable: true,
         done: false,
@@ -116,17 +90,15 @@ pub(crate) fn run(rt: &impl Print) -> io::Result<()> {
     transfer(rt, rows(), on, false, 262143, 2)?;
     transfer(rt, rows(), on, false, 262144, 1)?;
     transfer(rt, rows(), on, true, 262143, 1)?;
-    say::text(rt, b"Shadow off, range 1 locked for reading\n")?;
+    println!(rt; "Shadow off, range 1 locked for reading")?;
     let off = Mbr {
         enable: false,
         done: false,
         done_on_program: false,
     };
     let mut locked = rows();
-    let mut one = locked[1];
-    one.read_enabled = true;
-    one.read_locked = true;
-    locked[1] = one;
+    locked[1].read_enabled = true;
+    locked[1].read_locked = true;
     transfer(rt, locked, off, false, 990, 10)?;
     transfer(rt, locked, off, false, 990, 11)?;
     transfer(rt, locked, off, false, 1099, 2)?;

@@ -1,5 +1,5 @@
 // Every number from 2 to 7 with its neighbours, buffers of every kind and requests of every length.
-use crate::{ask, host, say};
+use crate::{ask, host};
 use model::Card;
 use packet::{Hsn, Tsn};
 use std::io;
@@ -15,17 +15,12 @@ fn longest() -> [u8; 2049] {
 // The number that the request s gets in this buffer, and what became of the buffer.
 fn tells(rt: &impl Print, card: Card, s: &[u8], answer: &mut [u8]) -> io::Result<()> {
     let o = card::command(card, s, answer);
-    say::text(rt, b"number ")?;
-    say::number(rt, o.number as u64)?;
-    say::text(rt, b", ")?;
-    say::size(rt, o.count)?;
-    say::text(rt, b" bytes")?;
-    if host::untouched(answer, o.count) {
-        say::text(rt, b", the rest untouched\n")?;
-    } else {
-        say::text(rt, b", bytes past them changed\n")?;
+    let (number, count) = (o.number, o.count);
+    print!(rt; "number {number}, {count} bytes")?;
+    if host::untouched(answer, count) {
+        return println!(rt; ", the rest untouched");
     }
-    Ok(())
+    println!(rt; ", bytes past them changed")
 }
 
 // The same with a buffer of 2,048.
@@ -35,53 +30,36 @@ fn hears(rt: &impl Print, card: Card, s: &[u8]) -> io::Result<()> {
 }
 
 fn rooms(rt: &impl Print, card: Card, s: &[u8]) -> io::Result<()> {
-    say::text(
-        rt,
-        b"Number 2: buffers of 0, 2,047, 2,048 and 4,096 bytes\n",
-    )?;
+    println!(rt; "Number 2: buffers of 0, 2,047, 2,048 and 4,096 bytes")?;
     let mut none = [host::FILL; 0];
     let mut short = [host::FILL; 2047];
     let mut just = [host::FILL; 2048];
     let mut more = [host::FILL; 4096];
-    say::text(rt, b"  0: ")?;
+    print!(rt; "  0: ")?;
     tells(rt, card, s, &mut none)?;
-    say::text(rt, b"  2,047: ")?;
+    print!(rt; "  2,047: ")?;
     tells(rt, card, s, &mut short)?;
-    say::text(rt, b"  2,048: ")?;
+    print!(rt; "  2,048: ")?;
     tells(rt, card, s, &mut just)?;
-    say::text(rt, b"  4,096: ")?;
+    print!(rt; "  4,096: ")?;
     tells(rt, card, s, &mut more)
 }
 
-// The number that the first n bytes of s get.
-fn number(card: Card, s: &[u8], n: usize) -> u8 {
+// The number that a request gets.
+fn number(card: Card, request: &[u8]) -> u8 {
     let mut answer = [host::FILL; 2048];
-    if s.len() < n {
-        return 0;
-    }
-    let o = card::command(card, &s[..n], &mut answer);
-    o.number
+    card::command(card, request, &mut answer).number
 }
 
-fn changes(rt: &impl Print, n: usize, k: u8) -> io::Result<()> {
-    say::text(rt, b"  from ")?;
-    say::size(rt, n)?;
-    say::text(rt, b" bytes on: number ")?;
-    say::number(rt, k as u64)?;
-    say::text(rt, b"\n")
-}
-
-// Says from which length on which number comes.
+// Says from which length on which number comes, of the bytes of s from the first on.
 fn lengths(rt: &impl Print, card: Card, s: &[u8]) -> io::Result<()> {
-    let mut last = 0xff;
-    let mut n: usize = 0;
-    while n < 2050 {
-        let k = number(card, s, n);
-        if k != last {
-            changes(rt, n, k)?;
+    let mut last = None;
+    for n in 0..=s.len() {
+        let k = number(card, &s[..n]);
+        if last != Some(k) {
+            println!(rt; "  from {n} bytes on: number {k}")?;
         }
-        last = k;
-        n += 1;
+        last = Some(k);
     }
     Ok(())
 }
@@ -90,24 +68,21 @@ fn lengths(rt: &impl Print, card: Card, s: &[u8]) -> io::Result<()> {
 fn field(rt: &impl Print, card: Card, at: usize, n: usize, v: u64) -> io::Result<()> {
     let mut q = host::request();
     ask::field(&mut q, at, n, v);
-    say::text(rt, b"  ")?;
-    say::number(rt, v)?;
-    say::text(rt, b": ")?;
+    print!(rt; "  {v}: ")?;
     hears(rt, card, &q)
 }
 
 fn envelopes(rt: &impl Print, card: Card) -> io::Result<()> {
-    say::text(rt, b"Number 4: ComPacket Length, which is 76\n")?;
+    println!(rt; "Number 4: ComPacket Length, which is 76")?;
     field(rt, card, 16, 4, 75)?;
     field(rt, card, 16, 4, 76)?;
     field(rt, card, 16, 4, 77)?;
-    say::text(rt, b"Packet Length, which is 52\n")?;
+    println!(rt; "Packet Length, which is 52")?;
     field(rt, card, 40, 4, 51)?;
     field(rt, card, 40, 4, 52)?;
     field(rt, card, 40, 4, 53)?;
-    say::text(
-        rt,
-        b"Subpacket Length, which is 39; 37 to 40 with their pad give the same Packet Length, so that the payload is at fault\n",
+    println!(rt;
+        "Subpacket Length, which is 39; 37 to 40 with their pad give the same Packet Length, so that the payload is at fault"
     )?;
     field(rt, card, 52, 4, 36)?;
     field(rt, card, 52, 4, 37)?;
@@ -115,17 +90,17 @@ fn envelopes(rt: &impl Print, card: Card) -> io::Result<()> {
     field(rt, card, 52, 4, 39)?;
     field(rt, card, 52, 4, 40)?;
     field(rt, card, 52, 4, 41)?;
-    say::text(rt, b"ComID, which is 4,096\n")?;
+    println!(rt; "ComID, which is 4,096")?;
     field(rt, card, 4, 2, 4095)?;
     field(rt, card, 4, 2, 4096)?;
     field(rt, card, 4, 2, 4097)?;
-    say::text(rt, b"Extension and Kind, which are 0\n")?;
+    println!(rt; "Extension and Kind, which are 0")?;
     field(rt, card, 6, 2, 1)?;
     field(rt, card, 50, 2, 1)
 }
 
 // A Get of the MSID with this TSN and HSN.
-fn numbered(rt: &impl Print, what: &[u8], card: Card, tsn: u32, hsn: u32) -> io::Result<()> {
+fn numbered(rt: &impl Print, what: &str, card: Card, tsn: u32, hsn: u32) -> io::Result<()> {
     let mut q = [0u8; 256];
     let n = ask::get(&mut q, ask::PIN_MSID, 3, 3);
     host::sends(rt, what, card, &mut q, Tsn(tsn), Hsn(hsn), n)?;
@@ -133,66 +108,56 @@ fn numbered(rt: &impl Print, what: &[u8], card: Card, tsn: u32, hsn: u32) -> io:
 }
 
 fn sessions(rt: &impl Print, card: Card) -> io::Result<()> {
-    say::text(
-        rt,
-        b"Number 5: a Get beside the open session of TSN 1 and HSN 105\n",
-    )?;
-    let a = host::starts(rt, b"StartSession", card, ask::ADMIN_SP)?;
-    numbered(rt, b"TSN 0, HSN 105", a, 0, 105)?;
-    numbered(rt, b"TSN 1, HSN 105", a, 1, 105)?;
-    numbered(rt, b"TSN 2, HSN 105", a, 2, 105)?;
-    numbered(rt, b"TSN 1, HSN 104", a, 1, 104)?;
-    numbered(rt, b"TSN 1, HSN 106", a, 1, 106)?;
-    numbered(rt, b"TSN 1, HSN 0", a, 1, 0)?;
-    numbered(rt, b"TSN 105, HSN 1", a, 105, 1)?;
-    numbered(rt, b"TSN 0, HSN 0", a, 0, 0)?;
+    println!(rt; "Number 5: a Get beside the open session of TSN 1 and HSN 105")?;
+    let a = host::starts(rt, "StartSession", card, ask::ADMIN_SP)?;
+    numbered(rt, "TSN 0, HSN 105", a, 0, 105)?;
+    numbered(rt, "TSN 1, HSN 105", a, 1, 105)?;
+    numbered(rt, "TSN 2, HSN 105", a, 2, 105)?;
+    numbered(rt, "TSN 1, HSN 104", a, 1, 104)?;
+    numbered(rt, "TSN 1, HSN 106", a, 1, 106)?;
+    numbered(rt, "TSN 1, HSN 0", a, 1, 0)?;
+    numbered(rt, "TSN 105, HSN 1", a, 105, 1)?;
+    numbered(rt, "TSN 0, HSN 0", a, 0, 0)?;
     let b = host::ends(rt, a)?;
-    numbered(rt, b"TSN 1, HSN 105 after the end", b, 1, 105)
+    numbered(rt, "TSN 1, HSN 105 after the end", b, 1, 105)
 }
 
 fn no_calls(rt: &impl Print, card: Card) -> io::Result<()> {
-    say::text(
-        rt,
-        b"Number 6: on 0, 0; and a broken payload in a session, which closes it\n",
-    )?;
+    println!(rt; "Number 6: on 0, 0; and a broken payload in a session, which closes it")?;
     host::ends(rt, card)?;
-    host::pairs(rt, b"FB 00", card, 0xfb, 0)?;
-    host::pairs(rt, b"FC 00", card, 0xfc, 0)?;
-    host::pairs(rt, b"FC 01", card, 0xfc, 1)?;
-    host::pairs(rt, b"F8 00, a broken payload", card, 0xf8, 0)?;
-    host::pairs(rt, b"FA 00, a broken payload", card, 0xfa, 0)?;
+    host::pairs(rt, "FB 00", card, 0xfb, 0)?;
+    host::pairs(rt, "FC 00", card, 0xfc, 0)?;
+    host::pairs(rt, "FC 01", card, 0xfc, 1)?;
+    host::pairs(rt, "F8 00, a broken payload", card, 0xf8, 0)?;
+    host::pairs(rt, "FA 00, a broken payload", card, 0xfa, 0)?;
     host::calls(
         rt,
-        b"a call that is no StartSession",
+        "a call that is no StartSession",
         card,
         ask::LOCKING_SP,
         ask::ACTIVATE,
     )?;
-    let a = host::starts(rt, b"StartSession", card, ask::ADMIN_SP)?;
-    let b = host::pairs(rt, b"FA 00, a broken payload", a, 0xfa, 0)?;
-    numbered(rt, b"TSN 1, HSN 105 after it", b, 1, 105)
+    let a = host::starts(rt, "StartSession", card, ask::ADMIN_SP)?;
+    let b = host::pairs(rt, "FA 00, a broken payload", a, 0xfa, 0)?;
+    numbered(rt, "TSN 1, HSN 105 after it", b, 1, 105)
 }
 
-fn resets(rt: &impl Print, what: &[u8], card: Card) -> io::Result<()> {
-    let o = card::tper_reset(card);
-    say::text(rt, b"  ")?;
-    say::text(rt, what)?;
-    say::text(rt, b": number ")?;
-    say::number(rt, o.number as u64)?;
-    say::text(rt, b"\n")
+fn resets(rt: &impl Print, what: &str, card: Card) -> io::Result<()> {
+    let number = card::tper_reset(card).number;
+    println!(rt; "  {what}: number {number}")
 }
 
 fn reset(rt: &impl Print, card: Card) -> io::Result<()> {
-    say::text(rt, b"Number 7: column 8 of TPerInfo\n")?;
-    resets(rt, b"TPER_RESET at the factory", card)?;
+    println!(rt; "Number 7: column 8 of TPerInfo")?;
+    resets(rt, "TPER_RESET at the factory", card)?;
     let a = host::as_sid(rt, card)?;
     let b = host::begins(rt, a)?;
-    let c = host::sets(rt, b"column 8 to 1", b, ask::TPER_INFO, 8, 1)?;
-    resets(rt, b"TPER_RESET before the commit", c)?;
+    let c = host::sets(rt, "column 8 to 1", b, ask::TPER_INFO, &[(8, 1)])?;
+    resets(rt, "TPER_RESET before the commit", c)?;
     let d = host::commits(rt, c)?;
-    resets(rt, b"TPER_RESET after it", d)?;
-    let e = host::sets(rt, b"column 8 to 0", d, ask::TPER_INFO, 8, 0)?;
-    resets(rt, b"TPER_RESET", e)
+    resets(rt, "TPER_RESET after it", d)?;
+    let e = host::sets(rt, "column 8 to 0", d, ask::TPER_INFO, &[(8, 0)])?;
+    resets(rt, "TPER_RESET", e)
 }
 
 fn lowest(rt: &impl Print, card: Card) -> io::Result<()> {
@@ -201,16 +166,15 @@ fn lowest(rt: &impl Print, card: Card) -> io::Result<()> {
     let junk = [host::FILL; 2048];
     let mut unsound = card;
     unsound.cells.n = 0;
-    say::text(
-        rt,
-        b"The lowest number first: 2,049 bytes that are no packet\n  to a record with N 0, with room for 2,047: ",
+    print!(rt;
+        "The lowest number first: 2,049 bytes that are no packet\n  to a record with N 0, with room for 2,047: "
     )?;
     tells(rt, unsound, &long, &mut short)?;
-    say::text(rt, b"  with room for 2,047: ")?;
+    print!(rt; "  with room for 2,047: ")?;
     tells(rt, card, &long, &mut short)?;
-    say::text(rt, b"  with room for 2,048: ")?;
+    print!(rt; "  with room for 2,048: ")?;
     hears(rt, card, &long)?;
-    say::text(rt, b"  one byte less: ")?;
+    print!(rt; "  one byte less: ")?;
     hears(rt, card, &junk)
 }
 
@@ -219,9 +183,8 @@ pub(crate) fn run(rt: &impl Print) -> io::Result<()> {
     let good = host::request();
     let long = longest();
     rooms(rt, card, &good)?;
-    say::text(
-        rt,
-        b"Number 3: a good packet of 96 bytes, cut or with bytes beyond, 0 to 2,049 bytes\n",
+    println!(rt;
+        "Number 3: a good packet of 96 bytes, cut or with bytes beyond, 0 to 2,049 bytes"
     )?;
     lengths(rt, card, &long)?;
     envelopes(rt, card)?;

@@ -1,32 +1,10 @@
-// What the figures are printed with.
+// What bytes are printed with.
 use std::io;
-
-pub(crate) fn text(rt: &impl Print, s: &[u8]) -> io::Result<()> {
-    rt.write_all(s)
-}
-
-pub(crate) fn number(rt: &impl Print, v: u64) -> io::Result<()> {
-    rt.print(v)
-}
-
-pub(crate) fn size(rt: &impl Print, v: usize) -> io::Result<()> {
-    rt.print(v)
-}
-
-fn byte(rt: &impl Print, b: u8) -> io::Result<()> {
-    print!(rt; "{b:02x} ")
-}
 
 // The n bytes of s from byte first on, or those that are there.
 pub(crate) fn part(rt: &impl Print, s: &[u8], first: usize, n: usize) -> io::Result<()> {
-    let mut i = 0;
-    while i < s.len() {
-        if first <= i {
-            if i - first < n {
-                byte(rt, s[i])?;
-            }
-        }
-        i += 1;
+    for b in s.iter().skip(first).take(n) {
+        print!(rt; "{b:02x} ")?;
     }
     Ok(())
 }
@@ -37,8 +15,8 @@ pub(crate) fn some(rt: &impl Print, s: &[u8], n: usize) -> io::Result<()> {
 }
 
 pub(crate) fn hex(rt: &impl Print, s: &[u8]) -> io::Result<()> {
-    if s.len() == 0 {
-        text(rt, b"nothing ")?;
+    if s.is_empty() {
+        print!(rt; "nothing ")?;
     }
     some(rt, s, s.len())
 }

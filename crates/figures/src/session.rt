@@ -6,19 +6,15 @@ use std::io;
 
 // What came back, whole.
 fn came(rt: &impl Print, number: u8, count: usize, answer: &[u8]) -> io::Result<()> {
-    say::text(rt, b"  number ")?;
-    say::number(rt, number as u64)?;
-    say::text(rt, b", ")?;
-    say::size(rt, count)?;
-    say::text(rt, b" bytes out")?;
+    print!(rt; "  number {number}, {count} bytes out")?;
     if host::untouched(answer, count) {
-        say::text(rt, b", the rest untouched")?;
+        print!(rt; ", the rest untouched")?;
     }
-    say::text(rt, b"\n")?;
+    println!(rt; "")?;
     if number == 0 {
-        say::text(rt, b"    ")?;
+        print!(rt; "    ")?;
         say::some(rt, answer, count)?;
-        say::text(rt, b"\n")?;
+        println!(rt; "")?;
     }
     Ok(())
 }
@@ -27,11 +23,10 @@ fn came(rt: &impl Print, number: u8, count: usize, answer: &[u8]) -> io::Result<
 fn exchange(rt: &impl Print, card: Card, request: &[u8]) -> io::Result<Card> {
     let mut answer = [host::FILL; 2048];
     let o = card::command(card, request, &mut answer);
-    say::text(rt, b"  ")?;
-    say::size(rt, request.len())?;
-    say::text(rt, b" bytes in\n    ")?;
+    let size = request.len();
+    print!(rt; "  {size} bytes in\n    ")?;
     say::hex(rt, request)?;
-    say::text(rt, b"\n")?;
+    println!(rt; "")?;
     came(rt, o.number, o.count, &answer)?;
     Ok(o.card)
 }
@@ -39,12 +34,8 @@ fn exchange(rt: &impl Print, card: Card, request: &[u8]) -> io::Result<Card> {
 fn opened(rt: &impl Print, card: Card) -> io::Result<Card> {
     let mut q = [0u8; 96];
     let n = ask::start(&mut q, 105, ask::ADMIN_SP);
-    say::text(rt, b"  payload ")?;
-    say::size(rt, n)?;
     let m = ask::sealed(&mut q, Tsn(0), Hsn(0), n);
-    say::text(rt, b", total ")?;
-    say::size(rt, m)?;
-    say::text(rt, b"\n")?;
+    println!(rt; "  payload {n}, total {m}")?;
     exchange(rt, card, &q)
 }
 
@@ -55,9 +46,8 @@ fn ended(rt: &impl Print, card: Card) -> io::Result<Card> {
 }
 
 pub(crate) fn run(rt: &impl Print) -> io::Result<()> {
-    say::text(
-        rt,
-        b"The card's own answers: StartSession with HSN 105 and no options, the end of that session, and the end again\n",
+    println!(rt;
+        "The card's own answers: StartSession with HSN 105 and no options, the end of that session, and the end again"
     )?;
     let a = opened(rt, host::factory(1000000))?;
     let b = ended(rt, a)?;

@@ -1,70 +1,59 @@
 // Values read and written whole, and values that are cut, too deep or out of order.
 use crate::say;
 use std::io;
-use tape::Took;
-use token::Put;
-use value::End;
+use tape::{Took, TookError};
+use token::PutError;
 
 fn ends(rt: &impl Print, s: &[u8]) -> io::Result<()> {
-    say::text(rt, b"  ")?;
+    print!(rt; "  ")?;
     say::hex(rt, s)?;
     let e = value::value_at(s, 0, 16);
     match e {
-        End::At(q) => {
-            say::text(rt, b"is a value of ")?;
-            say::size(rt, q)?;
-            say::text(rt, b" bytes\n")?;
+        Some(q) => {
+            println!(rt; "is a value of {q} bytes")?;
         }
-        End::Broken => {
-            say::text(rt, b"is broken\n")?;
+        None => {
+            println!(rt; "is broken")?;
         }
     }
     Ok(())
 }
 
-fn written(rt: &impl Print, p: Put, out: &[u8]) -> io::Result<()> {
+fn written(rt: &impl Print, p: Result<usize, PutError>, out: &[u8]) -> io::Result<()> {
     match p {
-        Put::At(z) => {
-            say::text(rt, b"written again as ")?;
+        Ok(z) => {
+            print!(rt; "written again as ")?;
             say::some(rt, out, z)?;
         }
-        Put::Full => {
-            say::text(rt, b"no room, the buffer is still ")?;
+        Err(PutError::Full) => {
+            print!(rt; "no room, the buffer is still ")?;
             say::hex(rt, out)?;
         }
-        Put::Outside => {
-            say::text(rt, b"no value to write, the buffer is still ")?;
+        Err(PutError::Outside) => {
+            print!(rt; "no value to write, the buffer is still ")?;
             say::hex(rt, out)?;
         }
     }
-    say::text(rt, b"\n")
+    println!(rt; "")
 }
 
 // From bytes to a tape, and from there to bytes again.
 fn again(rt: &impl Print, s: &[u8], out: &mut [u8]) -> io::Result<()> {
     let mut words = [0u64; 24];
-    say::text(rt, b"  ")?;
+    print!(rt; "  ")?;
     say::hex(rt, s)?;
     let t = tape::read_value(s, 0, &mut words, 0);
     match t {
-        Took::At { node, next: _ } => {
-            say::text(rt, b"takes ")?;
-            say::size(rt, node)?;
-            say::text(rt, b" nodes, ")?;
-        }
-        Took::Full => {
-            say::text(rt, b"has no room on the tape, ")?;
-        }
-        Took::Broken => {
-            say::text(rt, b"is broken, ")?;
-        }
+        Ok(Took { node, .. }) => print!(rt; "takes {node} nodes, ")?,
+        Err(TookError::Full) => print!(rt; "has no room on the tape, ")?,
+        Err(TookError::Broken) => print!(rt; "is broken, ")?,
     }
     let p = tape::write_value(&words, s, 0, &mut *out, 0);
     written(rt, p, out)
 }
 
 pub(crate) fn run(rt: &impl Print) -> io::Result<()> {
-    say::text(rt, b"Values\n")?;
+    println!(rt; "Values")?;
     ends(rt, b"\xf0\xf1")?;
     ends(rt, b"\xf0\x01\xf2\x03\xa1a\xf3\xf1")?;
     ends(rt, b"\xff\xf0\xff\x01\xff\xf1")?;
@@ -72,9 +61,8 @@ pub(crate) fn run(rt: &impl Print) -> io::Result<()> {
         rt,
         b"\xf0\xf0\xf0\xf0\xf0\xf0\xf0\xf0\xf0\xf0\xf0\xf0\xf0\xf0\xf0\xf0\xf1\xf1\xf1\xf1\xf1\xf1\xf1\xf1\xf1\xf1\xf1\xf1\xf1\xf1\xf1\xf1",
     )?;
-    say::text(
-        rt,
-        b"Seventeen lists, an unclosed name, an unclosed list, a name that is a list, a stray end, nothing\n",
+    println!(rt;
+        "Seventeen lists, an unclosed name, an unclosed list, a name that is a list, a stray end, nothing"
     )?;
     ends(
         rt,
@@ -86,9 +74,8 @@ pub(crate) fn run(rt: &impl Print) -> io::Result<()> {
     ends(rt, b"\xf3")?;
     ends(rt, b"")?;
     ends(rt, b"\xff")?;
-    say::text(
-        rt,
-        b"To a tape and back: the shortest form, too little room, too little tape, no value\n",
+    println!(rt;
+        "To a tape and back: the shortest form, too little room, too little tape, no value"
     )?;
     let mut out = [0u8; 16];
     again(

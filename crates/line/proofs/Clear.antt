@@ -8,13 +8,12 @@ use native.Mathlib.Omega.{arith}
 use lib.ListN.{length, length-append}
 use lib.Seq.{take_at}
 use borrow.Author.Tests.{lt-ltb, le-leb, ne_eqb}
-use Rattle.token.proofs.Laws.{lt-or-le}
+use Rattle.std.specs.Prelude.{Some}
+use Rattle.token.proofs.Laws.{lt-or-le, below}
 use Rattle.token.proofs.Round.{here}
-use Rattle.line.specs.declared.Stop.TheVariants as S
-use Rattle.line.specs.declared.Found.TheVariants as F
-use Rattle.line.specs.Words.{blank, stops_at, first_of, first_at, word_at, part}
+use Rattle.line.specs.Hex.{digit_of}
+use Rattle.line.specs.Words.{blank, mark, past, first_of, first_at, word_at, part}
 use Rattle.line.specs.Laws.{Ends}
-use Rattle.line.proofs.Spelling.{under}
 
 -- t holds nowhere in l
 abbrev pub Clear : (ℕ → Bool) → List ℕ → Type 0
@@ -36,6 +35,11 @@ first_past t p [] [] h k = omega arith
 first_past t p [] (x ∷ b) h k = rw k (omega arith)
 first_past t p (x ∷ l) b h k = rw h.0 (omega (arith, first_past t (p + 1) l b h.1 k))
 
+-- below the digits nothing is one
+under : (b : ℕ) → b < 48 → digit_of b ≡ 16
+unfolding digit_of
+under b h = simp (below 48 57 b h, below 65 70 b (omega arith), below 97 102 b (omega arith))
+
 -- a blank is no digit
 blank-under : (x : ℕ) → blank x ≡ true → x < 48
 unfolding blank
@@ -47,13 +51,12 @@ blank-under x e = ⊎_elim (λ (h : x < 48). h) (λ (h : 48 ≤ x). absurd (neve
         let z : ◌≡◌ {A = ℕ} 0 1 = cc in
         omega arith
 
-stops-blank : (b : List ℕ) → Ends b → Stops (stops_at S.Blank) b
-unfolding stops_at
+stops-blank : (b : List ℕ) → Ends b → Stops blank b
 stops-blank [] e = tt
 stops-blank (x ∷ b) e = e
 
-stops-digit : (n : ℕ) → n ≤ 16 → (b : List ℕ) → Ends b → Stops (stops_at (S.Past n)) b
-unfolding stops_at
+stops-digit : (n : ℕ) → n ≤ 16 → (b : List ℕ) → Ends b → Stops (past n) b
+unfolding past
 stops-digit n h [] e = tt
 stops-digit n h (x ∷ b) e = rw (under x (blank-under x e)) (le-leb n 16 h)
 
@@ -63,18 +66,18 @@ part-here a l b =
     rw (here a l b, q) (take_at l b (length l) refl)
 
 module _ (a l b : List ℕ) (e : Ends b) where
-  pub digits-here : (n : ℕ) → n ≤ 16 → Clear (stops_at (S.Past n)) l → first_at (S.Past n) (a ++ l ++ b) (length a) ≡ length a + length l
-  digits-here n h k = rw (here a l b) (first_past (stops_at (S.Past n)) (length a) l b k (stops-digit n h b e))
+  pub digits-here : (n : ℕ) → n ≤ 16 → Clear (past n) l → first_at (past n) (a ++ l ++ b) (length a) ≡ length a + length l
+  digits-here n h k = rw (here a l b) (first_past (past n) (length a) l b k (stops-digit n h b e))
 
-  end-here : Clear (stops_at S.Blank) l → first_at S.Blank (a ++ l ++ b) (length a) ≡ length a + length l
-  end-here k = rw (here a l b) (first_past (stops_at S.Blank) (length a) l b k (stops-blank b e))
+  end-here : Clear blank l → first_at blank (a ++ l ++ b) (length a) ≡ length a + length l
+  end-here k = rw (here a l b) (first_past blank (length a) l b k (stops-blank b e))
 
-start-here : (a b : List ℕ) (x : ℕ) (l : List ℕ) → stops_at S.Blank x ≡ false → first_at S.Mark (a ++ (x ∷ l) ++ b) (length a) ≡ length a
-unfolding first_of stops_at
+start-here : (a b : List ℕ) (x : ℕ) (l : List ℕ) → blank x ≡ false → first_at mark (a ++ (x ∷ l) ++ b) (length a) ≡ length a
+unfolding first_of
 start-here a b x l k = rw (here a (x ∷ l) b, k)
 
 -- a text of no blank is a word
-pub word-here : (a l b : List ℕ) → 0 < length l → Clear (stops_at S.Blank) l → Ends b → word_at (a ++ l ++ b) (length a) ≡ F.At (length a) (length a + length l)
+pub word-here : (a l b : List ℕ) → 0 < length l → Clear blank l → Ends b → word_at (a ++ l ++ b) (length a) ≡ Some (length a, length a + length l)
 unfolding word_at
 word-here a [] b h k e = absurd (omega arith)
 word-here a (x ∷ l) b h k e =

@@ -1,7 +1,5 @@
 -- The laws that the proofs of `line` cite.
-pub mod Spelling
 pub mod Walks
-pub mod Alike
 pub mod Values
 pub mod Forms
 pub mod Puts

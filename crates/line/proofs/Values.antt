@@ -1,13 +1,9 @@
 -- Digits read as a number.
-use Prim.Native.Nat.{ℕ, ◌+◌, ◌*◌, ◌^◌, ◌≤◌, ◌<◌}
-use mathlib.Core.Path.{◌≡◌}
-use mathlib.Core.List.{List, [], ◌∷◌}
-use native.Mathlib.Omega.{arith}
-use native.Mathlib.Numerals.{add-one}
-use lib.ListN.{length, drop, get_or, drop_of_length-le}
-use lib.Seq.{drop-cons}
+use Rattle.std.proofs.Common.{ℕ, ◌+◌, ◌*◌, ◌^◌, ◌≤◌, ◌<◌, ◌≡◌, List, [], ◌∷◌, length, drop, get_or, arith, add-one, Option, Result, Ok, Err, SomeIff, ok_or, IsErrAnd, ap, ◌∙◌}
+use Rattle.std.proofs.Math.ListN.{drop_of_length-le}
+use Rattle.std.proofs.Math.Seq.{drop-cons}
 use borrow.Author.Tests.{lt-ltb, le-ltb}
-use Rattle.line.specs.declared.Num.TheVariants as N
+use Rattle.line.specs.declared.Why.{Why}
 use Rattle.line.specs.declared.Why.TheVariants as Y
 use Rattle.line.specs.Hex.{digit_of}
 use Rattle.line.specs.Number.{value_of, sized}
@@ -27,15 +23,28 @@ unfolding value_of
 value_grows v [] = omega arith
 value_grows v (b ∷ l) = omega (arith, value_grows (v * 10 + digit_of b) l)
 
--- so one that is too large already stays so
-pub value-large : (n v : ℕ) (l : List ℕ) → n ≡ value_of v l → 2 ^ 64 ≤ v → 2 ^ 64 ≤ n
-value-large n v l e h = omega (arith, value_grows v l)
-
-module _ (v q : ℕ) where
-  pub sized-is : v < 2 ^ 64 → sized v q ≡ N.Is v q
+module _ (v : ℕ) where
+  pub sized-is : v < 2 ^ 64 → sized v ≡ Ok v
   unfolding sized
   sized-is h = rw (lt-ltb v (2 ^ 64) h)
 
-  pub sized-large : 2 ^ 64 ≤ v → sized v q ≡ N.Not Y.Large
+  pub sized-large : 2 ^ 64 ≤ v → sized v ≡ Err Y.Large
   unfolding sized
   sized-large h = rw (le-ltb v (2 ^ 64) h)
+
+-- so one that is too large already stays so
+pub large : (n v : ℕ) (l : List ℕ) → n ≡ value_of v l → 2 ^ 64 ≤ v → sized n ≡ Err Y.Large
+large n v l e h = sized-large n (omega (arith, value_grows v l))
+
+-- what `?` answers
+pub same_error : {A : Type 0} (r : Result A Why) (x y : Why) → IsErrAnd r (λ e. e ≡ x) → x ≡ y → r ≡ Err y
+same_error (Ok a) x y h e = absurd h
+same_error (Err w) x y h e = ap Err (h ∙ e)
+
+-- a sum or a product that is refused has more than 64 bits
+pub refused : (r : Option ℕ) (x : ℕ) (y : Why) → SomeIff r (x < 2 ^ 64) x → Err y ≡ ok_or r Y.Large → (y ≡ Y.Large) × (2 ^ 64 ≤ x)
+refused r x y h e = grind arith
+
+-- and one that is taken has not
+pub taken : (r : Option ℕ) (x y : ℕ) → SomeIff r (x < 2 ^ 64) x → Ok y ≡ ok_or r Y.Large → y ≡ x
+taken r x y h e = grind arith

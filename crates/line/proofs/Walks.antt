@@ -1,62 +1,73 @@
 -- Where a walk stops, and so where a word lies.
-use Prim.Native.Nat.{ℕ, ◌+◌, ◌≤◌, ◌<◌}
-use mathlib.Core.Path.{◌≡◌, sym, subst, ◌∙◌}
-use mathlib.Core.List.{List, [], ◌∷◌}
-use mathlib.Core.Bool.{Bool, true, false}
-use native.Mathlib.Omega.{arith}
-use native.Mathlib.Numerals.{add-one}
-use lib.ListN.{length, drop, get_or, length-drop, drop_of_length-le}
-use lib.Seq.{drop-cons}
-use lib.Dec.{ltb}
-use borrow.Author.Tests.{ltb-true}
-use Rattle.token.proofs.Writes.{cond-all}
-use Rattle.line.specs.declared.Found.{Found}
-use Rattle.line.specs.declared.Found.TheVariants as F
-use Rattle.line.specs.declared.Stop.TheVariants as S
-use Rattle.line.specs.Words.{stops_at, first_of, first_at, word_at}
+use Rattle.std.proofs.Common.{ℕ, ◌+◌, ◌-◌, ◌≤◌, ◌<◌, ◌≡◌, ◌∙◌, List, [], ◌∷◌, Bool, true, false, cond, not, arith, length, take, drop, ltb, Option, Some, None, not, unwrap_or, length-drop, ◌⊎◌, ⊎_elim, zero, suc, ◌||◌}
+use Rattle.std.specs.List.{position_or_len, list_any}
+use Rattle.std.proofs.lemmas.Bool.Decides.{nat_tests}
+use borrow.Author.Tests.{lt-ltb, le-ltb}
+use Rattle.std.proofs.lemmas.List.{take_all}
+use Rattle.std.proofs.lemmas.List.Sums.{prefix_len-le-length}
+use Rattle.line.specs.Words.{blank, mark, first_of, first_at, word_at, part}
 
-module _ (t : ℕ → Bool) (s : List ℕ) (i : ℕ) where
-  pub first-here : i < length s → t (get_or s i 0) ≡ true → first_of t i (drop i s) ≡ i
-  unfolding first_of
-  first-here h e = rw (drop-cons s i 0, e)
+-- a walk, in the library's words
+pub first_is : (t : ℕ → Bool) (p : ℕ) (l : List ℕ) → first_of t p l ≡ p + position_or_len t l
+unfolding first_of
+first_is t p [] = omega arith
+first_is t p (b ∷ l) = elim (t b) as (λ v. cond v p (first_of t (p + 1) l) ≡ p + cond (not v) (1 + position_or_len t l) 0) [ true ↦ omega arith | false ↦ omega (arith, first_is t (p + 1) l) ]
 
-  pub first-later : i < length s → t (get_or s i 0) ≡ false → first_of t i (drop i s) ≡ first_of t (i + 1) (drop (i + 1) s)
-  unfolding first_of
-  first-later h e = rw (drop-cons s i 0, e, add-one)
+-- a walk through n bytes that stops before their end
+pub stops_any : (t : ℕ → Bool) (p : ℕ) (l : List ℕ) (n : ℕ) → n ≤ length l → ltb (first_of t p l) (p + n) ≡ list_any t (take n l)
+unfolding first_of
+stops_any t p [] zero h = le-ltb p (p + 0) (omega arith)
+stops_any t p [] (suc n) h = absurd (omega arith)
+stops_any t p (b ∷ l) zero h = le-ltb (first_of t p (b ∷ l)) (p + 0) (omega (arith, first_is t p (b ∷ l)))
+stops_any t p (b ∷ l) (suc n) h =
+    let k : p + suc n ≡ (p + 1) + n = omega arith in
+    elim (t b) as (λ v. ltb (cond v p (first_of t (p + 1) l)) (p + suc n) ≡ (v || list_any t (take n l)))
+    [ true ↦ lt-ltb p (p + suc n) (omega arith) | false ↦ rw k (stops_any t (p + 1) l n (omega arith)) ]
 
-  pub first-never : length s ≤ i → first_of t i (drop i s) ≡ i
-  unfolding first_of
-  first-never h = rw drop_of_length-le
+-- the same of the word from p to e
+pub past_any : (t : ℕ → Bool) (s : List ℕ) (p e : ℕ) → p ≤ e → e ≤ length s → ltb (first_at t s p) e ≡ list_any t (part s p e)
+past_any t s p e h k =
+    let q : p + (e - p) ≡ e = omega arith in
+    rw q at (stops_any t p (drop p s) (e - p) (omega (arith, length-drop p s)))
 
-module _ (t : ℕ → Bool) where
-  pub first-from : (p : ℕ) (l : List ℕ) → p ≤ first_of t p l
-  unfolding first_of
-  first-from p [] = omega arith
-  first-from p (b ∷ l) =
-      let h = first-from (p + 1) l in
-      cond-all (λ q. p ≤ q) (t b) p (first_of t (p + 1) l) (λ e. omega arith) (λ e. omega arith)
+-- the library's answer for it
+abbrev pub Position : (ℕ → Bool) → List ℕ → Option ℕ → Type 0
+Position t l r = r ≡ cond (ltb (position_or_len t l) (length l)) (Some (position_or_len t l)) None
 
-  pub first-within : (p : ℕ) (l : List ℕ) → first_of t p l ≤ p + length l
-  unfolding first_of
-  first-within p [] = omega arith
-  first-within p (b ∷ l) =
-      let h = first-within (p + 1) l in
-      cond-all (λ q. q ≤ p + length (b ∷ l)) (t b) p (first_of t (p + 1) l) (λ e. omega arith) (λ e. omega arith)
+position-none : (t : ℕ → Bool) (l : List ℕ) (r : Option ℕ) → Position t l r → r ≡ None → length l ≤ position_or_len t l
+position-none t l r h e = grind (arith, nat_tests)
 
--- a word lies in its line
-abbrev pub Inside : List ℕ → Found → Type 0
-Inside s F.Nothing = Unit {0}
-Inside s (F.At p e) = (p < length s) × (p ≤ e) × (e ≤ length s)
+position-some : (t : ℕ → Bool) (l : List ℕ) (r : Option ℕ) (n : ℕ) → Position t l r → r ≡ Some n → (n ≡ position_or_len t l) × (n < length l)
+position-some t l r n h e = grind (arith, nat_tests)
 
-pub inside : (s : List ℕ) (at : ℕ) → Inside s (word_at s at)
-unfolding word_at
-inside s at =
-    let p = first_at S.Mark s at in
-    cond-all (Inside s) (ltb p (length s)) (F.At p (first_at S.Blank s p)) F.Nothing (λ e. lies s p (ltb-true p (length s) e)) (λ e. tt)
-  where
-    lies : (s : List ℕ) (p : ℕ) → p < length s → Inside s (F.At p (first_at S.Blank s p))
-    lies s p h = (h, first-from (stops_at S.Blank) p (drop p s), omega (arith, first-within (stops_at S.Blank) p (drop p s), length-drop p s))
+pub position-else : (t : ℕ → Bool) (l : List ℕ) (r : Option ℕ) (n : ℕ) → Position t l r → n ≡ length l → unwrap_or r n ≡ position_or_len t l
+position-else t l r n h e = grind (arith, nat_tests, prefix_len-le-length (λ x. not (t x)) l)
 
--- of a word that was found
-pub inside_found : (s : List ℕ) (at : ℕ) (w : Found) (p e : ℕ) → w ≡ word_at s at → w ≡ F.At p e → Inside s (F.At p e)
-inside_found s at w p e a b = subst (Inside s) (sym a ∙ b) (inside s at)
+-- of the next word from at on: what the code takes from at on, and from its first mark on
+module _ (s : List ℕ) (at : ℕ) where
+  pub word-past : (length s < at) ⊎ (length s < length s) → word_at s at ≡ None
+  unfolding word_at
+  word-past h =
+      let k : length s < at = ⊎_elim (λ (a : length s < at). a) (λ (b : length s < length s). absurd (omega arith)) h in
+      rw (le-ltb (first_at mark s at) (length s) (omega (arith, first_is mark at (drop at s))))
+
+  module _ (r : List ℕ) (f : r ≡ take (length s - at) (drop at s)) where
+    from-at : r ≡ drop at s
+    from-at = f ∙ take_all (length s - at) (drop at s) (omega (arith, length-drop at s))
+
+    pub word-none : (o : Option ℕ) → Position mark r o → o ≡ None → word_at s at ≡ None
+    unfolding word_at
+    word-none o h e =
+        let k = position-none mark (drop at s) o (rw from-at at h) e in
+        rw (le-ltb (first_at mark s at) (length s) (omega (arith, first_is mark at (drop at s), length-drop at s)))
+
+    pub word-some : (n : ℕ) (o q : Option ℕ) → Position mark r o → o ≡ Some n → Position blank (take (length s - (at + n)) (drop (at + n) s)) q
+        → word_at s at ≡ Some (at + n, at + n + unwrap_or q (length s - (at + n)))
+    unfolding word_at
+    word-some n o q h e g =
+        let w = position-some mark (drop at s) o n (rw from-at at h) e in
+        let k : first_at mark s at ≡ at + n = omega (arith, first_is mark at (drop at s)) in
+        let l = length-drop at s in
+        let m = length-drop (at + n) s in
+        let v : take (length s - (at + n)) (drop (at + n) s) ≡ drop (at + n) s = take_all (length s - (at + n)) (drop (at + n) s) (omega arith) in
+        rw (k, lt-ltb (at + n) (length s) (omega arith), first_is blank (at + n) (drop (at + n) s), position-else blank (drop (at + n) s) q (length s - (at + n)) (rw v at g) (omega arith))

@@ -1,7 +1,6 @@
 -- Numbers in decimal digits.
-use Rattle.std.specs.Prelude.{ℕ, zero, suc, ◌+◌, ◌*◌, ◌/◌, ◌%◌, ◌^◌, List, [], ◌∷◌, ◌++◌, cond, ltb}
-use Rattle.line.specs.declared.Num.{Num}
-use Rattle.line.specs.declared.Num.TheVariants as N
+use Rattle.std.specs.Prelude.{ℕ, zero, suc, ◌+◌, ◌*◌, ◌/◌, ◌%◌, ◌^◌, List, [], ◌∷◌, ◌++◌, cond, ltb, Result, Ok, Err}
+use Rattle.line.specs.declared.Why.{Why}
 use Rattle.line.specs.declared.Why.TheVariants as Y
 use Rattle.line.specs.Hex.{digit_of, char_of}
 
@@ -10,9 +9,9 @@ unfoldable pub value_of : ℕ → List ℕ → ℕ
 value_of a [] = a
 value_of a (b ∷ l) = value_of (a * 10 + digit_of b) l
 
--- the number v before the place q, where it has 64 bits
-unfoldable pub sized : ℕ → ℕ → Num
-sized v q = cond (ltb v (2 ^ 64)) (N.Is v q) (N.Not Y.Large)
+-- the number v, where it has 64 bits
+unfoldable pub sized : ℕ → Result ℕ Why
+sized v = cond (ltb v (2 ^ 64)) (Ok v) (Err Y.Large)
 
 -- the digits of v, up to k of them, with no zero in front
 unfoldable pub dec_of : ℕ → ℕ → List ℕ

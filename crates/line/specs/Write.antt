@@ -1,14 +1,6 @@
 -- What is written: all of it, or nothing where there is no room.
 use Rattle.std.specs.Prelude.{ℕ, ◌+◌, List, [], ◌∷◌, cond, length, take, drop, leb}
-use Rattle.line.specs.declared.Form.{Form}
-use Rattle.line.specs.declared.Form.TheVariants as W
 use Rattle.line.specs.Hex.{digits_of, bytes_of}
-
--- bytes as they are, as digits, and as the bytes that they say as digits
-unfoldable pub formed : Form → List ℕ → List ℕ
-formed W.Plain s = s
-formed W.Spelled s = digits_of s
-formed W.Meant s = bytes_of s
 
 -- bytes as text: `-` where there are none
 unfoldable pub hex_text : List ℕ → List ℕ

@@ -1,39 +1,35 @@
 // Hex and decimal digits.
 ghost use Rattle.std.specs.Prelude.{◌≡◌, ◌≤◌, ◌<◌};
+ghost use Rattle.std.specs.List.{list_any};
 ghost use Rattle.line.specs.Hex.{digit_of, char_of};
+ghost use Rattle.line.specs.Words.{past};
 
-// What a digit says; 16 for any other byte.
+// What a digit says; 16 for any other byte, and no None: each reader asks only whether it is below a base.
+#[tactic(auto, unfolding(crate::specs::Hex::digit_of, token::specs::Bytes::within))]
 pub(crate) fn digit(b: u8) -> u8
     ensures { (result ≡ digit_of b) × (result ≤ 16) }
 {
-    if b < 48 {
-        return 16;
+    match b {
+        b'0'..=b'9' => b - b'0',
+        b'A'..=b'F' => b - b'A' + 10,
+        b'a'..=b'f' => b - b'a' + 10,
+        _ => 16,
     }
-    if b < 58 {
-        return b - 48;
-    }
-    if b < 65 {
-        return 16;
-    }
-    if b < 71 {
-        return b - 55;
-    }
-    if b < 97 {
-        return 16;
-    }
-    if b < 103 {
-        return b - 87;
-    }
-    16
 }
 
 // How a digit is written.
+#[tactic(auto, unfolding(crate::specs::Hex::char_of))]
 pub(crate) fn letter(d: u8) -> u8
     requires { d < 16 }
     ensures { result ≡ char_of d }
 {
-    if d < 10 {
-        return 48 + d;
-    }
-    87 + d
+    if d < 10 { b'0' + d } else { b'a' + (d - 10) }
+}
+
+// Whether a byte of w is anything but a digit below a base.
+#[tactic(auto, unfolding(crate::specs::Words::past))]
+pub(crate) fn any_past(w: &[u8], base: u8) -> bool
+    ensures { result ≡ list_any (past base) w.now }
+{
+    w.iter().any(|b| base <= digit(*b))
 }

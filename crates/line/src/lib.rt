@@ -15,7 +15,7 @@ ghost use Rattle.line.specs.Write.{hex_text, bytes_at, put_end};
 ghost use Rattle.line.specs.Laws.{ReadBack};
 
 // Why a line can't be read.
-#[derive(Clone, Copy)]
+#[derive(Clone, Copy, PartialEq, Eq)]
 pub enum Why {
     // the first word is none of ours
     Word,
@@ -36,7 +36,7 @@ pub enum Why {
 }
 
 // What a line says. Bytes stay in the line: len digits, an even count, from at on; none for `-`.
-#[derive(Clone, Copy)]
+#[derive(Clone, Copy, PartialEq, Eq)]
 pub enum Line {
     // nothing, or a remark
     Pass,
@@ -47,41 +47,10 @@ pub enum Line {
     Media { write: bool, start: u64, count: u64 },
     Image,
     Load { at: usize, len: usize },
-    Bad(Why),
 }
 
-// What a walk along a line stops at.
-#[derive(Clone, Copy)]
-pub enum Stop {
-    Blank,
-    // anything but a blank
-    Mark,
-    // anything but a digit below this base
-    Past(u8),
-}
-
-// A word, from its first place to the place after it.
-#[derive(Clone, Copy)]
-pub enum Found {
-    At(usize, usize),
-    Nothing,
-}
-
-// A number and the place after it.
-#[derive(Clone, Copy)]
-pub enum Num {
-    Is(u64, usize),
-    Not(Why),
-}
-
-// Where hex digits start, how many there are, and the place after their word.
-#[derive(Clone, Copy)]
-pub enum Digits {
-    Are(usize, usize, usize),
-    Not(Why),
-}
-
-#[derive(Clone, Copy)]
+// A line's first word.
+#[derive(Clone, Copy, PartialEq, Eq)]
 pub enum Verb {
     New,
     Command,
@@ -91,63 +60,44 @@ pub enum Verb {
     Write,
     Image,
     Load,
-    Unknown,
-}
-
-// How bytes are put into a buffer: as they are, as hex digits, or as the bytes that they say as hex digits.
-#[derive(Clone, Copy)]
-pub enum Form {
-    Plain,
-    Spelled,
-    Meant,
 }
 
 // Whether a line is a remark, however long it is.
+#[tactic(auto, unfolding(crate::specs::Line::remark_in))]
 pub fn is_remark(s: &[u8]) -> bool
     ensures { result ≡ remark s.now }
 {
-    let w = words::word(s, 0);
-    match w {
-        Found::At(p, _) => {
-            return s[p] == b'#';
-        }
-        Found::Nothing => {
-            return false;
-        }
+    match words::word(s, 0) {
+        Some((p, _)) => s[p] == b'#',
+        None => false,
     }
 }
 
 // What a line says.
-pub fn read(s: &[u8]) -> Line
+#[tactic(auto, unfolding(crate::specs::Line::line_in))]
+pub fn read(s: &[u8]) -> Result<Line, Why>
     ensures { result ≡ line_of s.now }
 {
-    let w = words::word(s, 0);
-    match w {
-        Found::At(p, e) => {
-            if s[p] == b'#' {
-                return Line::Pass;
-            }
-            let k = lines::verb_of(&s[p..e]);
-            return lines::by_verb(s, e, k);
-        }
-        Found::Nothing => {
-            return Line::Pass;
-        }
+    let Some((p, e)) = words::word(s, 0) else {
+        return Ok(Line::Pass);
+    };
+    if s[p] == b'#' {
+        return Ok(Line::Pass);
     }
+    let k = lines::verb_of(&s[p..e]).ok_or(Why::Word)?;
+    lines::by_verb(s, e, k)
 }
 
 // The bytes that len digits of s say from at on, to the front of out: how many. None where the digits are not there, or where there is no room.
+#[tactic(auto, using(crate::proofs::Puts::bytes_there))]
 pub fn unhex(out: &mut [u8], s: &[u8], at: usize, len: usize) -> usize
     ensures answer { result ≡ put_end (length out.old) 0 (bytes_at s.now at len) }
     ensures buffer { out.new ≡ put_all true out.old 0 (bytes_at s.now at len) }
 {
-    if at <= s.len() {
-        if len <= s.len() - at {
-            return write::put(out, 0, &s[at..at + len], Form::Meant);
-        }
+    if s.len() < at || s.len() - at < len {
         return 0;
     }
-    0
+    write::meant(out, 0, &s[at..at + len])
 }
 
 // A text as it is, at at; the place after it. Where there is no room nothing is written and at comes back.
@@ -155,7 +105,7 @@ pub fn put_text(out: &mut [u8], at: usize, s: &[u8]) -> usize
     ensures answer { result ≡ put_end (length out.old) at s.now }
     ensures buffer { out.new ≡ put_all true out.old at s.now }
 {
-    write::put(out, at, s, Form::Plain)
+    write::plain(out, at, s)
 }
 
 // Bytes as hex digits, or `-` for none, the same way.
@@ -163,10 +113,10 @@ pub fn put_hex(out: &mut [u8], at: usize, s: &[u8]) -> usize
     ensures answer { result ≡ put_end (length out.old) at (hex_text s.now) }
     ensures buffer { out.new ≡ put_all true out.old at (hex_text s.now) }
 {
-    if s.len() == 0 {
-        return write::put(out, at, b"-", Form::Plain);
+    if s.is_empty() {
+        return write::plain(out, at, b"-");
     }
-    write::put(out, at, s, Form::Spelled)
+    write::spelled(out, at, s)
 }
 
 // A number in decimal digits, the same way.
@@ -177,14 +127,15 @@ pub fn put_decimal(out: &mut [u8], at: usize, v: u64) -> usize
     let mut d = [0u8; 20];
     let mut j = 20;
     let mut w = v;
+    // stays a while: how often it runs is known only as it goes
     while 10 <= w {
         j -= 1;
         d[j] = chars::letter((w % 10) as u8);
-        w = w / 10;
+        w /= 10;
     }
     j -= 1;
     d[j] = chars::letter(w as u8);
-    write::put(out, at, &d[j..], Form::Plain)
+    write::plain(out, at, &d[j..])
 }
 
 // What is written is read back.

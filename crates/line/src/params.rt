@@ -3,80 +3,58 @@ ghost use Rattle.std.specs.Prelude.{◌≡◌, ◌≤◌, length};
 ghost use Rattle.line.specs.Number.{sized, value_of};
 ghost use Rattle.line.specs.Line.{number_at, hex_in, hex_at};
 
-use crate::{Digits, Found, Num, Stop, Why, chars, words};
+use crate::{Why, chars, words};
 
-fn wide(x: u8) -> u64
-    ensures { result ≡ x }
-{
-    x as u64
-}
-
-// The number that the digits of w make, with the place after them.
-fn decimal(w: &[u8], next: usize) -> Num
-    ensures { result ≡ sized (value_of 0 w.now) next }
+// The number that the digits of w make.
+fn decimal(w: &[u8]) -> Result<u64, Why>
+    ensures { result ≡ sized (value_of 0 w.now) }
 {
     let mut v: u64 = 0;
-    let mut i = 0;
-    while i < w.len() {
-        let d = wide(chars::digit(w[i]));
-        if 0x1999999999999999 < v {
-            return Num::Not(Why::Large);
-        }
-        if 0xffffffffffffffff - d < v * 10 {
-            return Num::Not(Why::Large);
-        }
-        v = v * 10 + d;
-        i += 1;
+    for b in w {
+        let d = u64::from(chars::digit(*b));
+        let tens = v.checked_mul(10).ok_or(Why::Large)?;
+        v = tens.checked_add(d).ok_or(Why::Large)?;
     }
-    Num::Is(v, next)
+    Ok(v)
 }
 
-// The next word from at on, as a number.
-pub(crate) fn number(s: &[u8], at: usize) -> Num
+// The next word from at on, as a number, and the place after it.
+#[tactic(auto, using(crate::proofs::Walks::past_any), unfolding(crate::specs::Line::number_in))]
+pub(crate) fn number(s: &[u8], at: usize) -> Result<(u64, usize), Why>
     ensures { result ≡ number_at s.now at }
 {
-    let w = words::word(s, at);
-    match w {
-        Found::At(p, e) => {
-            if words::first(s, p, Stop::Past(10)) < e {
-                return Num::Not(Why::Number);
-            }
-            return decimal(&s[p..e], e);
-        }
-        Found::Nothing => {
-            return Num::Not(Why::Few);
-        }
+    let (p, e) = words::word(s, at).ok_or(Why::Few)?;
+    let w = &s[p..e];
+    if chars::any_past(w, 10) {
+        return Err(Why::Number);
     }
+    let v = decimal(w)?;
+    Ok((v, e))
 }
 
-// The word from p to e as hex.
-fn hex(s: &[u8], p: usize, e: usize) -> Digits
+// The word from p to e as hex: where the digits start, how many there are, and the place after them.
+#[tactic(auto, using(crate::proofs::Walks::past_any), unfolding(crate::specs::Line::hex_in))]
+fn hex(s: &[u8], p: usize, e: usize) -> Result<(usize, usize, usize), Why>
     requires { (p ≤ e) × (e ≤ length s.now) }
     ensures { result ≡ hex_in s.now p e }
 {
-    if words::is_same(&s[p..e], b"-") {
-        return Digits::Are(p, 0, e);
+    let w = &s[p..e];
+    if w == b"-".as_slice() {
+        return Ok((p, 0, e));
     }
-    if words::first(s, p, Stop::Past(16)) < e {
-        return Digits::Not(Why::Hex);
+    if chars::any_past(w, 16) {
+        return Err(Why::Hex);
     }
-    if (e - p) % 2 == 0 {
-        return Digits::Are(p, e - p, e);
+    if w.len() % 2 != 0 {
+        return Err(Why::Odd);
     }
-    Digits::Not(Why::Odd)
+    Ok((p, w.len(), e))
 }
 
 // The next word from at on, as hex.
-pub(crate) fn hex_at(s: &[u8], at: usize) -> Digits
+pub(crate) fn hex_at(s: &[u8], at: usize) -> Result<(usize, usize, usize), Why>
     ensures { result ≡ hex_at s.now at }
 {
-    let w = words::word(s, at);
-    match w {
-        Found::At(p, e) => {
-            return hex(s, p, e);
-        }
-        Found::Nothing => {
-            return Digits::Not(Why::Few);
-        }
-    }
+    let (p, e) = words::word(s, at).ok_or(Why::Few)?;
+    hex(s, p, e)
 }

@@ -1,70 +1,23 @@
 // The words of a line.
-ghost use Rattle.std.specs.Prelude.{◌≡◌};
-ghost use Rattle.line.specs.Words.{blank, stops_at, first_at, word_at, same};
+ghost use Rattle.std.specs.Prelude.{◌≡◌, ◌<◌, ◌≤◌, length, IfSome};
+ghost use Rattle.line.specs.Words.{blank, word_at};
 
-use crate::{Found, Stop, chars};
-
+#[tactic(auto, unfolding(crate::specs::Words::blank))]
 fn is_blank(b: u8) -> bool
     ensures { result ≡ blank b }
 {
-    if b == 32 {
-        return true;
-    }
-    if b == 9 {
-        return true;
-    }
-    b == 13
+    matches!(b, b' ' | b'\t' | b'\r')
 }
 
-fn stops(k: Stop, b: u8) -> bool
-    ensures { result ≡ stops_at k b }
+// The next word from at on: its first place, and the place after it.
+pub(crate) fn word(s: &[u8], at: usize) -> Option<(usize, usize)>
+    ensures value { result ≡ word_at s.now at }
+    ensures inside { IfSome result (λ w. (w.0 < length s.now) × (w.0 ≤ w.1) × (w.1 ≤ length s.now)) }
 {
-    match k {
-        Stop::Blank => is_blank(b),
-        Stop::Mark => !is_blank(b),
-        Stop::Past(n) => n <= chars::digit(b),
-    }
-}
-
-// The first place from at on where a walk stops.
-pub(crate) fn first(s: &[u8], at: usize, k: Stop) -> usize
-    ensures { result ≡ first_at k s.now at }
-{
-    let mut i = at;
-    while i < s.len() {
-        if stops(k, s[i]) {
-            return i;
-        }
-        i += 1;
-    }
-    i
-}
-
-// The next word from at on.
-pub(crate) fn word(s: &[u8], at: usize) -> Found
-    ensures { result ≡ word_at s.now at }
-{
-    let p = first(s, at, Stop::Mark);
-    if p < s.len() {
-        let e = first(s, p, Stop::Blank);
-        return Found::At(p, e);
-    }
-    Found::Nothing
-}
-
-pub(crate) fn is_same(a: &[u8], b: &[u8]) -> bool
-    ensures { result ≡ same a.now b.now }
-{
-    if a.len() == b.len() {
-        let mut i = 0;
-        while i < a.len() {
-            if a[i] == b[i] {
-                i += 1;
-            } else {
-                return false;
-            }
-        }
-        return true;
-    }
-    false
+    let p = at + s.get(at..)?.iter().position(|b| !is_blank(*b))?;
+    let len = s[p..]
+        .iter()
+        .position(|b| is_blank(*b))
+        .unwrap_or(s.len() - p);
+    Some((p, p + len))
 }

@@ -52,11 +52,9 @@ fn said(rt: &impl Print, what: &str, number: u8, count: usize) -> io::Result<()>
 }
 
 fn took(rt: &impl Eprint, what: &str, from: u64, to: u64) -> io::Result<()> {
-    if from <= to {
-        if to - from < 1000000000 {
-            let each = (to - from) * 1000 / ROUNDS;
-            return eprintln!(rt; "{what}: {each} ns");
-        }
+    if from <= to && to - from < 1000000000 {
+        let each = (to - from) * 1000 / ROUNDS;
+        return eprintln!(rt; "{what}: {each} ns");
     }
     eprintln!(rt; "{what}")
 }
@@ -65,11 +63,8 @@ fn took(rt: &impl Eprint, what: &str, from: u64, to: u64) -> io::Result<()> {
 fn again(card: Card, request: &[u8]) -> Card {
     let mut answer = [0; 2048];
     let mut last = card;
-    let mut i: u64 = 0;
-    while i < ROUNDS {
-        let o = card::command(card, request, &mut answer);
-        last = o.card;
-        i += 1;
+    for _ in 0..ROUNDS {
+        last = card::command(card, request, &mut answer).card;
     }
     last
 }

@@ -9,24 +9,18 @@ use desk::cut;
 use std::io;
 use std::io::{ErrorKind, Read, Write};
 
-// What is kept between lines: whether a card is in hand, and how much of the next line is there.
+// What is kept between lines: whether a card is in hand, and how much of the next line is there; both beside buffers that are lent, as there is no heap.
 #[derive(Clone, Copy)]
 struct State {
     there: bool,
     len: usize,
 }
 
-fn image_space() -> [u8; 1188]
-    ensures { 1188 ≡ length result }
+// Zeros, for the card's image, and for a line, an answer and a piece of input.
+fn zeros<const N: usize>() -> [u8; N]
+    ensures { N ≡ length result }
 {
-    [0; 1188]
-}
-
-// For a line, an answer and a piece of input.
-fn large_space() -> [u8; 65536]
-    ensures { 65536 ≡ length result }
-{
-    [0; 65536]
+    [0; N]
 }
 
 // One read, again where a signal broke it off.
@@ -36,11 +30,8 @@ fn read_some<R: Read>(input: &mut R, piece: &mut [u8]) -> io::Result<usize>
     for _ in 0..u64::MAX {
         match input.read(piece) {
             Ok(n) => return Ok(n),
-            Err(e) => {
-                if e.kind() != ErrorKind::Interrupted {
-                    return Err(e);
-                }
-            }
+            Err(e) if e.kind() == ErrorKind::Interrupted => {}
+            Err(e) => return Err(e),
         }
     }
     Err(io::Error::from(ErrorKind::Interrupted))
@@ -72,19 +63,17 @@ fn feed<W: Write>(
     line: &mut [u8],
     out: &mut [u8],
     piece: &[u8],
-    state: State,
+    mut s: State,
 ) -> io::Result<State> {
-    let mut s = state;
-    let mut at = 0;
-    while at < piece.len() {
-        let rest = &piece[at..];
+    let mut rest = piece;
+    while !rest.is_empty() {
         let e = cut::line_end(rest);
         s.len = cut::keep(line, s.len, cut::front(rest, e));
-        if rest.len() <= e {
+        let Some(next) = rest.get(e + 1..) else {
             return Ok(s);
-        }
+        };
         s = answer(output, image, line, out, s)?;
-        at = at + e + 1;
+        rest = next;
     }
     Ok(s)
 }
@@ -116,10 +105,10 @@ fn run<R: Read, W: Write>(
 }
 
 fn main(rt: HostRuntime) -> io::Result<()> {
-    let mut image = image_space();
-    let mut line = large_space();
-    let mut out = large_space();
-    let mut piece = large_space();
+    let mut image: [u8; 1188] = zeros();
+    let mut line: [u8; 65536] = zeros();
+    let mut out: [u8; 65536] = zeros();
+    let mut piece: [u8; 65536] = zeros();
     run(
         &mut rt.stdin(),
         &mut rt.stdout(),

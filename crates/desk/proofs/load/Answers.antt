@@ -1,5 +1,5 @@
 -- A sound image has just the bytes that are in hand, so it fills them.
-use mathlib.Core.Path.{sym, ◌∙◌, ap}
+use mathlib.Core.Path.{◌≡◌, sym, ◌∙◌, ap}
 use native.Mathlib.Omega.{arith}
 use Rattle.flamepocket.specs.Library.{sound_of}
 use Rattle.line.specs.Write.{bytes_at}
@@ -8,8 +8,8 @@ use Rattle.desk.proofs.load.Goals as goal
 use Rattle.desk.proofs.load.Goals.{After-unhex-m}
 
 -- the bytes that the line's digits say
-digits : (c : After-unhex-m) → let a = c.args in Front c.line_space-bytes.result (bytes_at a.l.now a.at a.len) c.unhex-m.new.out c.unhex-m.result c.unhex-m.ensures.answer c.unhex-m.ensures.buffer
-digits c = unhexed c.args.l.now _ _ _ _ _ (omega arith) c.line_space-bytes.ensures c.unhex-m.ensures.answer c.unhex-m.ensures.buffer
+digits : (c : After-unhex-m) → let a = c.args in Front c.zeros-bytes.result (bytes_at a.l.now a.at a.len) c.unhex-m.new.out c.unhex-m.result c.unhex-m.ensures.answer c.unhex-m.ensures.buffer
+digits c = unhexed c.args.l.now _ _ _ _ _ (omega arith) c.zeros-bytes.ensures c.unhex-m.ensures.answer c.unhex-m.ensures.buffer
 
 pub slice_bounds-bytes-end : goal.slice_bounds-bytes-end
 slice_bounds-bytes-end c = (digits ((goal.at.slice_bounds-bytes-end c).After-unhex-m)).fits
@@ -17,12 +17,13 @@ slice_bounds-bytes-end c = (digits ((goal.at.slice_bounds-bytes-end c).After-unh
 pub slice_bounds-flamepocket_sound-end : goal.slice_bounds-flamepocket_sound-end
 slice_bounds-flamepocket_sound-end c = (digits ((goal.at.slice_bounds-flamepocket_sound-end c).After-unhex-m)).counted
 
-pub returns-then-r-eq0 : goal.returns-then-r-eq0
-returns-then-r-eq0 c = let u = digits ((goal.at.returns-then-r-eq0 c).After-unhex-m) in
-    let z = sym (ap sound_of u.here) ∙ sym c.flamepocket_sound-r.ensures ∙ c.if-r-eq0.true in
-    let n = sound-length _ z in
-    loads _ _ _ _ _ _ _ z (filled c.args.image.now _ _ _ c.unhex.ensures.answer c.unhex.ensures.buffer (omega (arith, n))) c.say-k.ensures
+pub returns-then-flamepocket_sound-ne0 : goal.returns-then-flamepocket_sound-ne0
+returns-then-flamepocket_sound-ne0 c = let u = digits ((goal.at.returns-then-flamepocket_sound-ne0 c).After-unhex-m) in
+    stays _ _ _ _ _ _ (λ z. c.if-flamepocket_sound-ne0.true (c.flamepocket_sound.ensures ∙ ap sound_of u.here ∙ z)) c.say-count.ensures
 
 pub returns : goal.returns
 returns c = let u = digits ((goal.at.returns c).After-unhex-m) in
-    stays _ _ _ _ _ _ (λ z. c.if-r-eq0.false (c.flamepocket_sound-r.ensures ∙ ap sound_of u.here ∙ z)) c.say-k-2.ensures
+    let w : c.flamepocket_sound.result ≡ 0 = omega arith in
+    let z = sym (ap sound_of u.here) ∙ sym c.flamepocket_sound.ensures ∙ w in
+    let n = sound-length _ z in
+    rw c.in_hand.ensures (loads _ _ _ _ _ _ _ z (filled c.args.image.now _ _ _ c.unhex.ensures.answer c.unhex.ensures.buffer (omega (arith, n))) c.say.ensures)

@@ -6,8 +6,8 @@ use Rattle.desk.proofs.new.Goals as goal
 use Rattle.desk.proofs.new.Goals.{After-unhex-m}
 
 -- the bytes that the line's digits say
-digits : (c : After-unhex-m) → let a = c.args in Front c.line_space-bytes.result (bytes_at a.l.now a.at a.len) c.unhex-m.new.out c.unhex-m.result c.unhex-m.ensures.answer c.unhex-m.ensures.buffer
-digits c = unhexed c.args.l.now _ _ _ _ _ (omega arith) c.line_space-bytes.ensures c.unhex-m.ensures.answer c.unhex-m.ensures.buffer
+digits : (c : After-unhex-m) → let a = c.args in Front c.zeros-bytes.result (bytes_at a.l.now a.at a.len) c.unhex-m.new.out c.unhex-m.result c.unhex-m.ensures.answer c.unhex-m.ensures.buffer
+digits c = unhexed c.args.l.now _ _ _ _ _ (omega arith) c.zeros-bytes.ensures c.unhex-m.ensures.answer c.unhex-m.ensures.buffer
 
 pub slice_bounds-bytes-end : goal.slice_bounds-bytes-end
 slice_bounds-bytes-end c = (digits ((goal.at.slice_bounds-bytes-end c).After-unhex-m)).fits

@@ -12,4 +12,4 @@ returns-then-is_remark c = (refl, rw (sym c.is_remark.ensures ∙ c.if-is_remark
 pub returns : goal.returns
 unfolding long_text too_long
 returns c =
-    (refl, rw (sym c.is_remark.ensures ∙ c.if-is_remark.false) c.say-k.ensures)
+    (refl, rw (sym c.is_remark.ensures ∙ c.if-is_remark.false) c.say-count.ensures)

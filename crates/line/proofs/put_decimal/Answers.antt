@@ -5,7 +5,6 @@ use native.Mathlib.Nat.{le_of_eq}
 use native.Mathlib.Omega.{arith}
 use lib.ListN.{length-set}
 use Rattle.line.specs.Number.{dec_of}
-use Rattle.line.specs.Write.{formed}
 use Rattle.line.proofs.Decimals.{dec-room, dec-falls, dec-on, dec-done}
 use Rattle.line.proofs.put_decimal.Goals as goal
 
@@ -22,12 +21,11 @@ loop-w-preserved c = let l = c.loop-w in
       rw c.letter.ensures (l.invariant.4 ∙ dec-on l.d l.w l.j (omega arith) l.invariant.0 (omega arith)),
     )
 
-pub slice_bounds-put-end : goal.slice_bounds-put-end
-slice_bounds-put-end c = let l = c.loop-w in
+pub slice_bounds-plain-end : goal.slice_bounds-plain-end
+slice_bounds-plain-end c = let l = c.loop-w in
     le_of_eq (sym (length-set l.d (l.j - 1) c.letter-2.result ∙ l.invariant.3))
 
 pub returns : goal.returns
-unfolding formed
 returns c = let l = c.loop-w in
     let e = dec-done l.d c.args.v l.w l.j c.letter-2.result (omega arith) l.invariant.0 l.invariant.1 l.invariant.3 l.invariant.4 c.letter-2.ensures in
-    record { answer = rw e c.put.ensures.answer; buffer = rw e c.put.ensures.buffer }
+    record { answer = rw e c.plain.ensures.answer; buffer = rw e c.plain.ensures.buffer }

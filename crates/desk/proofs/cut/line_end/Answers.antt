@@ -1,19 +1,16 @@
-use mathlib.Core.Path.{refl, sym, ◌∙◌}
-use lib.ListN.{get_or}
-use native.Mathlib.Omega.{arith}
-use borrow.Author.Tests.{eq-eqb, ne_eqb}
-use Rattle.line.proofs.Walks.{first-here, first-later, first-never}
+-- The first line feed is where a walk stops.
+use Rattle.std.proofs.Common.{◌∙◌, sym, length, rules, tests, arith, not, refl, zero-add}
+use Rattle.std.proofs.lemmas.Iterator.{YieldsList-from_slice}
+use Rattle.std.proofs.lemmas.Iterator.Search.{position_from_yields_List}
+use Rattle.std.proofs.lemmas.List.Sums.{prefix_len-le-length}
+use Rattle.line.proofs.Walks.{first_is, position-else}
 use Rattle.desk.specs.Cut.{is_feed}
 use Rattle.desk.proofs.cut.line_end.Goals as goal
 
-pub loop-i-init : goal.loop-i-init
-loop-i-init c = (refl, omega arith)
-
-pub returns-then-s-i-eq10 : goal.returns-then-s-i-eq10
-returns-then-s-i-eq10 c = (sym (c.loop-i.invariant.0 ∙ first-here is_feed _ _ (omega arith) (eq-eqb (get_or c.args.s.now c.loop-i.i 0) 10 (omega arith))), omega arith)
-
-pub loop-i-preserved : goal.loop-i-preserved
-loop-i-preserved c = (c.loop-i.invariant.0 ∙ first-later is_feed _ _ (omega arith) (ne_eqb (get_or c.args.s.now c.loop-i.i 0) 10 (omega arith)), omega arith)
-
 pub returns : goal.returns
-returns c = (sym (c.loop-i.invariant.0 ∙ first-never is_feed _ _ (omega arith)), omega arith)
+returns c =
+    let s = c.args.s.now in
+    let e = position_from_yields_List is_feed _ _ _ c.position.ensures.ran (YieldsList-from_slice _ c.iter.ensures.rest) (λ x b q k. search (rules, tests)) in
+    let h = c.unwrap_or.ensures ∙ position-else is_feed s c.position.result (length s) e refl in
+    let f = first_is is_feed 0 s in
+    (h ∙ sym (f ∙ zero-add _), omega (arith, h, prefix_len-le-length (λ x. not (is_feed x)) s))

@@ -1,40 +1,29 @@
--- `line::lines::verb_of` meets its contract: the words in the definition's order.
-use mathlib.Core.Path.{sym, ◌∙◌}
+-- `line::lines::verb_of` meets its contract: the longer words want more steps than the others.
+use Rattle.std.proofs.Common.{arith}
+use Rattle.std.proofs.lemmas.Grind.{common_steps}
 use Rattle.line.specs.Line.{verb_of}
 use Rattle.line.proofs.lines.verb_of.Goals as goal
 
-pub returns-then-is_same : goal.returns-then-is_same
+pub returns-in-read : goal.returns-in-read
 unfolding verb_of
-returns-then-is_same c = rw (sym c.is_same.ensures ∙ c.if-is_same.true)
+returns-in-read c = grind (arith, common_steps)
 
-pub returns-then-is_same-2 : goal.returns-then-is_same-2
+pub returns-in-load : goal.returns-in-load
 unfolding verb_of
-returns-then-is_same-2 c = rw (sym c.is_same.ensures ∙ c.if-is_same.false, sym c.is_same-2.ensures ∙ c.if-is_same-2.true)
+returns-in-load c = grind (arith, common_steps)
 
-pub returns-then-is_same-3 : goal.returns-then-is_same-3
+pub returns-in-power : goal.returns-in-power
 unfolding verb_of
-returns-then-is_same-3 c = rw (sym c.is_same.ensures ∙ c.if-is_same.false, sym c.is_same-2.ensures ∙ c.if-is_same-2.false, sym c.is_same-3.ensures ∙ c.if-is_same-3.true)
+returns-in-power c = grind (arith, common_steps)
 
-pub returns-then-is_same-4 : goal.returns-then-is_same-4
+pub returns-in-reset : goal.returns-in-reset
 unfolding verb_of
-returns-then-is_same-4 c = rw (sym c.is_same.ensures ∙ c.if-is_same.false, sym c.is_same-2.ensures ∙ c.if-is_same-2.false, sym c.is_same-3.ensures ∙ c.if-is_same-3.false, sym c.is_same-4.ensures ∙ c.if-is_same-4.true)
+returns-in-reset c = grind (arith, common_steps)
 
-pub returns-then-is_same-5 : goal.returns-then-is_same-5
+pub returns-in-write : goal.returns-in-write
 unfolding verb_of
-returns-then-is_same-5 c = rw (sym c.is_same.ensures ∙ c.if-is_same.false, sym c.is_same-2.ensures ∙ c.if-is_same-2.false, sym c.is_same-3.ensures ∙ c.if-is_same-3.false, sym c.is_same-4.ensures ∙ c.if-is_same-4.false, sym c.is_same-5.ensures ∙ c.if-is_same-5.true)
+returns-in-write c = grind (arith, common_steps)
 
-pub returns-then-is_same-6 : goal.returns-then-is_same-6
+pub returns-in-image : goal.returns-in-image
 unfolding verb_of
-returns-then-is_same-6 c = rw (sym c.is_same.ensures ∙ c.if-is_same.false, sym c.is_same-2.ensures ∙ c.if-is_same-2.false, sym c.is_same-3.ensures ∙ c.if-is_same-3.false, sym c.is_same-4.ensures ∙ c.if-is_same-4.false, sym c.is_same-5.ensures ∙ c.if-is_same-5.false, sym c.is_same-6.ensures ∙ c.if-is_same-6.true)
-
-pub returns-then-is_same-7 : goal.returns-then-is_same-7
-unfolding verb_of
-returns-then-is_same-7 c = rw (sym c.is_same.ensures ∙ c.if-is_same.false, sym c.is_same-2.ensures ∙ c.if-is_same-2.false, sym c.is_same-3.ensures ∙ c.if-is_same-3.false, sym c.is_same-4.ensures ∙ c.if-is_same-4.false, sym c.is_same-5.ensures ∙ c.if-is_same-5.false, sym c.is_same-6.ensures ∙ c.if-is_same-6.false, sym c.is_same-7.ensures ∙ c.if-is_same-7.true)
-
-pub returns-then-is_same-8 : goal.returns-then-is_same-8
-unfolding verb_of
-returns-then-is_same-8 c = rw (sym c.is_same.ensures ∙ c.if-is_same.false, sym c.is_same-2.ensures ∙ c.if-is_same-2.false, sym c.is_same-3.ensures ∙ c.if-is_same-3.false, sym c.is_same-4.ensures ∙ c.if-is_same-4.false, sym c.is_same-5.ensures ∙ c.if-is_same-5.false, sym c.is_same-6.ensures ∙ c.if-is_same-6.false, sym c.is_same-7.ensures ∙ c.if-is_same-7.false, sym c.is_same-8.ensures ∙ c.if-is_same-8.true)
-
-pub returns : goal.returns
-unfolding verb_of
-returns c = rw (sym c.is_same.ensures ∙ c.if-is_same.false, sym c.is_same-2.ensures ∙ c.if-is_same-2.false, sym c.is_same-3.ensures ∙ c.if-is_same-3.false, sym c.is_same-4.ensures ∙ c.if-is_same-4.false, sym c.is_same-5.ensures ∙ c.if-is_same-5.false, sym c.is_same-6.ensures ∙ c.if-is_same-6.false, sym c.is_same-7.ensures ∙ c.if-is_same-7.false, sym c.is_same-8.ensures ∙ c.if-is_same-8.false)
+returns-in-image c = grind (arith, common_steps)

@@ -1,6 +1,0 @@
--- `host::untouched` ends: each turn goes on by a byte.
-use Rattle.std.proofs.Common.{length, ◌-◌}
-use Rattle.figures.proofs.host.untouched.Given as goal
-
-abbrev pub decreases-loop-i : goal.decreases-loop-i
-decreases-loop-i l = length l.s - l.i

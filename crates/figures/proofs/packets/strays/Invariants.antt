@@ -1,9 +1,0 @@
--- `packets::strays` is safe and ends: it counts at most one for each place.
-use Rattle.std.proofs.Common.{length, ◌-◌, ◌≤◌}
-use Rattle.figures.proofs.packets.strays.Given as goal
-
-abbrev pub invariant-loop-n : goal.invariant-loop-n
-invariant-loop-n l = (l.count ≤ l.n) × (l.n ≤ length l.places)
-
-abbrev pub decreases-loop-n : goal.decreases-loop-n
-decreases-loop-n l = length l.places - l.n
