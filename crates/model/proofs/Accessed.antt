@@ -22,6 +22,7 @@ use Rattle.model.specs.Words.{OneOf, Proved, Admins, AccessAsSaid}
 use Rattle.model.proofs.Legal.{Placed}
 use Rattle.model.proofs.Legal as L
 use Rattle.model.proofs.Short.{column-hidden}
+use Rattle.model.proofs.Soundness.{dec-eq, dec-on}
 
 -- ---- tests put together: a Bool with what it decides
 abbrev pub Test : Type 0 → Type 0
@@ -36,10 +37,7 @@ dec-last true d = d
 dec-last false d = d
 
 pub dec-is : (m x : ℕ) → Decides (eqb x m) (m ≡ x)
-dec-is m x = record { holds = λ e. sym (eqb-true x m e); fails = λ e p. eqb-false x m e (sym p) }
-
-dec-bool : (b : Bool) → Decides b (b ≡ true)
-dec-bool b = record { holds = λ e. e; fails = λ e p. true≢false (sym p ∙ e) }
+dec-is m x = map sym sym (dec-eq x m)
 
 abbrev pub never : Test ⊥
 never = (false, record { holds = λ e. true≢false (sym e); fails = λ _ n. n })
@@ -58,7 +56,7 @@ abbrev pub is : (m x : ℕ) → Test (m ≡ x)
 is m x = (eqb x m, dec-is m x)
 
 abbrev proved : (s : Session) (r : ℕ) → Test (Proved s r)
-proved s r = (proved_at s r, dec-bool (proved_at s r))
+proved s r = (proved_at s r, dec-on (proved_at s r))
 
 -- one of a list
 abbrev pub any : (m : ℕ) (l : List ℕ) → Test (OneOf m l)
@@ -101,7 +99,7 @@ dec-admins s (suc n) =
     (λ p.
     let m : p.0 ≤ suc n = p.2 in
     ⊎_elim (λ (e : p.0 ≡ suc n). inl (rw e at p.3)) (λ (g : p.0 < suc n). inr (p.0, p.1, omega arith, p.3)) (eq-or-lt_of_le m))
-    (dec-or (proved_at s (suc n)) (any_proved s n) (dec-bool (proved_at s (suc n))) (dec-admins s n))
+    (dec-or (proved_at s (suc n)) (any_proved s n) (dec-on (proved_at s (suc n))) (dec-admins s n))
 
 abbrev admins : (s : Session) → Test (Admins s)
 admins s = (any_proved s admin_count, dec-admins s admin_count)

@@ -1,4 +1,5 @@
 -- Where a PIN is compared, for which row and on what cells, and that nothing else rests on a PIN: the methods walked once.
+use Rattle.std.proofs.lemmas.Bool.{and_parts}
 use Rattle.std.specs.Prelude.{Option, Some, None, Result, Ok, Err}
 use Prim.Native.Nat.{ℕ, ◌<◌}
 use mathlib.Core.Path.{◌≡◌, refl, ap}
@@ -30,7 +31,7 @@ use Rattle.model.specs.Judge as J
 use Rattle.model.specs.Vault.{part}
 use Rattle.model.specs.Step as Z
 use Rattle.model.proofs.Legal as L
-use Rattle.model.proofs.Cases.{cond_ind, both}
+use Rattle.model.proofs.Cases.{cond_ind, whichever}
 use Rattle.model.proofs.Legal.{KnownWho, need-ind}
 
 -- nobody whose PIN is kept
@@ -155,7 +156,7 @@ module _ (c : Cells) where
     unfolding J.judge_manager
     judge-manager s object method vs f =
         need-ind (Asks c F H) _ _ _ (plain tt (free _ tt)) λ e. need-ind (Asks c F H) _ _ _ (plain tt (free _ tt)) λ none.
-        let is = both (eqb object U.manager_uid) (eqb method U.start_session) e in
+        let is = and_parts (eqb object U.manager_uid) (eqb method U.start_session) e in
         judge-start s _ (not-true _ none) (f (eqb-true _ _ is.0) (eqb-true _ _ is.1) (not-true _ none))
 
     -- ---- in the session
@@ -219,5 +220,4 @@ module _ (c : Cells) where
 
   pub plainly : {F : ℕ → ℕ → ℕ → Type 0} {H : Decision → Type 0} (b : Bool) (x y : Decision) → Plain x → Plain y → H x → H y
       → Asks c F H (Settled (cond b x y))
-  plainly true x y p q f g = plain p f
-  plainly false x y p q f g = plain q g
+  plainly {F} {H} b x y p q f g = whichever (λ d. Asks c F H (Settled d)) b x y (plain p f) (plain q g)

@@ -1,8 +1,8 @@
 -- What is decided of a call, on 0, 0 and in the session: the first fault that applies, or none.
 use Rattle.std.specs.Prelude.{Option, Some, None}
 use Prim.Native.Nat.{ℕ, ◌+◌, ◌≤◌, ◌<◌}
-use mathlib.Core.Path.{◌≡◌, refl, sym, ap, subst}
-use mathlib.Core.Bool.{Bool, true, false, not, ◌&&◌, true≢false}
+use mathlib.Core.Path.{◌≡◌, refl, sym, subst}
+use mathlib.Core.Bool.{Bool, true, false, not, ◌&&◌}
 use mathlib.Core.List.{List, [], ◌∷◌}
 use mathlib.Core.Logic.{inl, inr, ⊎_elim}
 use native.Mathlib.Omega.{arith}
@@ -44,18 +44,11 @@ use Rattle.model.proofs.Faults as F
 use Rattle.model.proofs.Faults.{look}
 use Rattle.model.proofs.Ordered.{Refused, Rowed, decision, unauthorised, invalid, locked_out, idle, of, got, put, bare, compared}
 
--- authorities told apart
-abbrev is_row : Who → Bool
-is_row W.Unknown = false
-is_row W.Anybody = false
-is_row W.Class = false
-is_row (W.Row r) = true
-
 -- an authority that a UID names has its row
 rowed : {b : Bool} {w : Who} → L.KnownWho b w → Rowed w
-rowed L.unknown r e = absurd (true≢false (sym (ap is_row e)))
-rowed L.anybody r e = absurd (true≢false (sym (ap is_row e)))
-rowed L.class r e = absurd (true≢false (sym (ap is_row e)))
+rowed L.unknown r e = absurd cc
+rowed L.anybody r e = absurd cc
+rowed L.class r e = absurd cc
 rowed (L.row {r = q} k) r e = let f : q ≡ r = cc in omega (arith, k.there)
 
 -- ---- what was decided on 0, 0

@@ -1,16 +1,22 @@
--- Cases on a test, on two, and on the numbers 1 to 8.
+-- Cases on a test, and on the numbers 1 to 8.
 use Prim.Native.Nat.{ℕ, zero, suc, ◌≤◌}
-use mathlib.Core.Path.{◌≡◌, refl, sym}
-use mathlib.Core.Bool.{Bool, true, false, ◌&&◌, cond, true≢false}
+use mathlib.Core.Path.{◌≡◌, refl}
+use mathlib.Core.Bool.{Bool, true, false, cond}
 use native.Mathlib.Omega.{arith}
+use Rattle.std.proofs.lemmas.Bool.{both_ways}
+pub use Rattle.token.proofs.Writes.{cond-all as cond_ind}
 
-pub cond_ind : {A : Type 0} (F : A → Type 0) (b : Bool) (x y : A) → (b ≡ true → F x) → (b ≡ false → F y) → F (cond b x y)
-cond_ind F true x y f g = f refl
-cond_ind F false x y f g = g refl
+-- what holds of either arm
+pub whichever : {A : Type 0} (P : A → Type 0) (b : Bool) (x y : A) → P x → P y → P (cond b x y)
+whichever P b x y f g = cond_ind P b x y (λ _. f) (λ _. g)
 
-pub both : (a b : Bool) → (a && b) ≡ true → (a ≡ true) × (b ≡ true)
-both true b e = (refl, e)
-both false b e = absurd (true≢false (sym e))
+-- a test within what f is of
+pub of_cond : {A B : Type 0} (f : A → B) (b : Bool) (x y : A) → f (cond b x y) ≡ cond b (f x) (f y)
+of_cond f true x y = refl
+of_cond f false x y = refl
+
+pub never : {P : Type 0} {b : Bool} → b ≡ false → b ≡ true → P
+never e f = absurd (both_ways _ e f)
 
 pub up_to4 : (F : ℕ → Type 0) → F 1 → F 2 → F 3 → F 4 → (k : ℕ) → 1 ≤ k → k ≤ 4 → F k
 up_to4 F a b c d zero l m = absurd (omega arith)

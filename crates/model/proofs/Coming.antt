@@ -1,50 +1,40 @@
 -- Whatever is answered came as a call on 0, 0, or as a payload of the open session.
 use Rattle.std.specs.Prelude.{Option, Some, None}
 use Prim.Native.Nat.{ℕ, ◌+◌, ◌≤◌}
-use mathlib.Core.Path.{◌≡◌, refl, sym, ap}
-use mathlib.Core.Bool.{Bool, true, false, true≢false}
+use mathlib.Core.Path.{◌≡◌, refl}
 use mathlib.Core.List.{List}
-use mathlib.Core.Logic.{◌⊎◌, inl, inr, ⊎_elim}
+use mathlib.Core.Logic.{inl, inr, ⊎_elim}
 use native.Mathlib.Omega.{arith}
-use lib.ListN.{length, take}
+use lib.ListN.{take}
 use Rattle.packet.specs.declared.Packet.{Packet}
 use Rattle.packet.specs.Envelope.{opened_of}
 use Rattle.payload.specs.declared.Payload.{Payload}
 use Rattle.payload.specs.declared.Payload.TheVariants as P
 use Rattle.payload.specs.Payload.{payload_at}
-use Rattle.ranges.specs.Decides.{Decides}
-use Rattle.ranges.proofs.Decide.{le-or-lt, dec-and}
+use Rattle.ranges.proofs.Decide.{dec-and}
 use Rattle.model.specs.Types.{Card}
 use Rattle.model.specs.Step.{command}
 use Rattle.model.specs.Sound.{sound}
 use Rattle.model.specs.Numbers.{First}
 use Rattle.model.specs.Statuses.{Heard}
-use Rattle.model.proofs.Soundness.{dec-eq}
+use Rattle.model.proofs.Soundness.{dec-eq, stable}
 use Rattle.model.proofs.Sent.{session-decides}
-use Rattle.model.proofs.Numbered.{is_call, numbers-in-order}
+use Rattle.model.proofs.Numbered.{numbers-in-order}
+use Rattle.std.proofs.lemmas.Bool.{true_from_ne_false}
+use Rattle.model.proofs.Accessed.{dec-or}
 
 -- ---- whatever is answered comes so: no number applies
 answered : {n i : ℕ} {A R : Type 0} → n ≡ 0 → 1 ≤ i → First n i A R → (A → ⊥) × R
 answered z l (inl p) = absurd (omega (arith, z, l, p.1))
 answered z l (inr q) = q
 
-not-no : (b : Bool) → (b ≡ false → ⊥) → b ≡ true
-not-no true f = refl
-not-no false f = absurd (f refl)
-
 a_call : (p : Payload) → (((o m q : ℕ) → p ≡ P.Call o m q → ⊥) → ⊥) → (o : ℕ) × (m : ℕ) × (q : ℕ) × (p ≡ P.Call o m q)
 a_call (P.Call o m q) f = (o, m, q, refl)
-a_call P.EndSession f = absurd (f (λ o m q e. true≢false (sym (ap is_call e))))
-a_call P.Begin f = absurd (f (λ o m q e. true≢false (sym (ap is_call e))))
-a_call P.Commit f = absurd (f (λ o m q e. true≢false (sym (ap is_call e))))
-a_call P.Abandon f = absurd (f (λ o m q e. true≢false (sym (ap is_call e))))
-a_call P.Broken f = absurd (f (λ o m q e. true≢false (sym (ap is_call e))))
-
--- neither of two is refuted: one of them
-either : {A B : Type 0} (a b : Bool) → Decides a A → Decides b B → ((A → ⊥) × (B → ⊥) → ⊥) → A ⊎ B
-either true b x y f = inl (x.holds refl)
-either false true x y f = inr (y.holds refl)
-either false false x y f = absurd (f (x.fails refl, y.fails refl))
+a_call P.EndSession f = absurd (f (λ o m q e. cc))
+a_call P.Begin f = absurd (f (λ o m q e. cc))
+a_call P.Commit f = absurd (f (λ o m q e. cc))
+a_call P.Abandon f = absurd (f (λ o m q e. cc))
+a_call P.Broken f = absurd (f (λ o m q e. cc))
 
 module _ (k : Card) (room : ℕ) (s : List ℕ) (z : (command k room s).number ≡ 0) where
   by-opened : (x : Option Packet) → opened_of s ≡ x → Heard k room s
@@ -66,14 +56,14 @@ module _ (k : Card) (room : ℕ) (s : List ℕ) (z : (command k room s).number �
         l,
         p,
         record {
-          sound = not-no (sound k) r1.0;
-          enough = ⊎_elim (λ m. m) (λ m. absurd (r2.0 m)) (le-or-lt 2048 room);
-          size = ⊎_elim (λ m. m) (λ m. absurd (r3.0 m)) (le-or-lt (length s) 2048);
+          sound = true_from_ne_false (sound k) r1.0;
+          enough = omega (arith, r2.0);
+          size = omega (arith, r3.0);
           says = e;
           payload = refl;
         },
         ⊎_elim (λ q. inl (q.0, q.1, a_call p (λ f. r6.0 (q.0, q.1, f)))) inr
-            (either _ _ (dec-and _ _ (dec-eq t.0 0) (dec-eq h.0 0)) (session-decides k t h) r5.0),
+            (stable _ (dec-or _ _ (dec-and _ _ (dec-eq t.0 0) (dec-eq h.0 0)) (session-decides k t h)) (λ n. r5.0 (λ p. n (inl p), λ p. n (inr p)))),
       )
   by-opened None e =
       let r1 = answered z (omega arith) (numbers-in-order.packets k room s) in

@@ -1,16 +1,17 @@
 -- A StartSession and an Authenticate for a row that is enabled and has a try left have its PIN compared.
+use Rattle.std.proofs.lemmas.Bool.{and_parts, and_from}
 use Rattle.std.specs.Prelude.{Some, None}
 use Prim.Native.Nat.{ℕ, ◌+◌, ◌≤◌, ◌<◌}
 use mathlib.Core.Path.{◌≡◌, refl, sym, ◌∙◌, ap, subst}
-use mathlib.Core.Bool.{Bool, true, false, not, ◌&&◌, ◌||◌, true≢false}
+use mathlib.Core.Bool.{Bool, true, false, not, ◌||◌, true≢false}
 use mathlib.Core.List.{List}
 use mathlib.Core.Logic.{◌≢◌, ◌⊎◌, inl, inr}
 use native.Mathlib.Omega.{arith}
 use borrow.Author.Tests.{lt-ltb, eq-eqb, eqb-true, not-false}
-use lib.ListN.{length, take}
-use lib.Dec.{leb, ltb, eqb}
+use lib.ListN.{take}
+use lib.Dec.{leb, eqb}
 use Rattle.ranges.specs.Decides.{imp}
-use Rattle.ranges.proofs.Decide.{is_true, is_false}
+use Rattle.ranges.proofs.Decide.{is_true, is_false, dec-imp}
 use Rattle.token.specs.Bytes.{within}
 use Rattle.packet.specs.Envelope.{opened_of}
 use Rattle.payload.specs.Payload.{payload_at}
@@ -36,20 +37,20 @@ use Rattle.model.specs.Wants.{bytes_in, Over32}
 use Rattle.model.specs.Packets.{Challenges, Authenticates, Compares}
 use Rattle.model.specs.Signs as G
 use Rattle.model.specs.Proved.{Ready}
-use Rattle.model.proofs.Cases.{cond_ind, both}
-use Rattle.model.proofs.Soundness.{sound-decides}
+use Rattle.model.proofs.Cases.{cond_ind}
+use Rattle.model.proofs.Soundness.{sound-decides, dec-on}
 use Rattle.model.proofs.Accessed.{access-as-said}
 use Rattle.model.proofs.Faults.{not_short, bytes-in}
-use Rattle.model.proofs.Meant.{unknown-not}
+use Rattle.model.proofs.Heard.{heard-ind}
 
 -- ---- the parameters
 short-enough : (x : Slot) → (Over32 x → ⊥) → leb (J.count_of x) R.pin_bytes ≡ true
 short-enough x h = not-false _ (is_false _ (not_short x) h)
 
-none_named : (locking : Bool) → U.who_in locking 0 ≡ W.Unknown
+none_named : {A : Type 0} (locking : Bool) (r : ℕ) → U.who_in locking 0 ≡ W.Row r → A
 unfolding U.who_in within
-none_named true = refl
-none_named false = refl
+none_named true r e = absurd cc
+none_named false r e = absurd cc
 
 passes : (b : Bool) (d : Decision) (j : Judged) → b ≡ true → J.need b d j ≡ j
 unfolding J.need
@@ -64,11 +65,11 @@ module _ (c : Cells) (r : ℕ) (enabled : R.enabled_at c.tables r ≡ true) (few
       → imp (eqb sp U.locking_sp) c.tables.active ≡ true → (Over32 x → ⊥) → U.who_in (eqb sp U.locking_sp) (uid_of s who) ≡ W.Row r
       → J.judge_start c s (Some (record { hsn = host; sp = sp; write = 1; challenge = x; authority = who })) ≡ Compare r (J.place_of x) (J.count_of x) (D.Started (eqb sp U.locking_sp) host (W.Row r)) (D.Missed r)
   unfolding J.judge_start J.need J.signer J.known free uid_of
-  judge-start s host sp x S.Absent known on short names = unknown-not r (sym (none_named _) ∙ names)
-  judge-start s host sp x (S.Int v) known on short names = unknown-not r (sym (none_named _) ∙ names)
+  judge-start s host sp x S.Absent known on short names = none_named _ r names
+  judge-start s host sp x (S.Int v) known on short names = none_named _ r names
   judge-start s host sp x (S.Bytes p n) known on short names = rw (known, on, short-enough x short, names) (judge-who _ x)
-  judge-start s host sp x (S.List p) known on short names = unknown-not r (sym (none_named _) ∙ names)
-  judge-start s host sp x S.Named known on short names = unknown-not r (sym (none_named _) ∙ names)
+  judge-start s host sp x (S.List p) known on short names = none_named _ r names
+  judge-start s host sp x S.Named known on short names = none_named _ r names
 
   judge-proof : (s : List ℕ) (who : ℕ) (x : Slot) → (Over32 x → ⊥) → U.who_in c.session.locking who ≡ W.Row r
       → J.judge_proof c s (Some (record { authority = who; proof = x })) ≡ Compare r (J.place_of x) (J.count_of x) (D.Proved (W.Row r)) (D.Mistaken r)
@@ -98,16 +99,6 @@ sp-is : (locking : Bool) (sp : ℕ) → ((locking ≡ false) × (sp ≡ U.admin_
 sp-is locking sp (inl h) = rw h.1 (sym h.0, refl)
 sp-is locking sp (inr h) = rw h.1 (sym h.0, refl)
 
-implied : (a b : Bool) → (a ≡ true → b ≡ true) → imp a b ≡ true
-implied true b h = h refl
-implied false b h = refl
-
-all_three : (a b c : Bool) → a ≡ true → b ≡ true → c ≡ true → (a && (b && c)) ≡ true
-all_three a b c e f g = rw (e, f, g) refl
-
-same-request : (m : ℕ) (s : List ℕ) (n : ℕ) (t : List ℕ) → packet m s ≡ packet n t → s ≡ t
-same-request m s n t e = cc
-
 module _ (k : Card) (r : ℕ) (b : List ℕ) (ready : Ready k r) where
   -- what is heard, where it is answered
   abbrev Compared : Z.Heard → Type 0
@@ -130,7 +121,7 @@ module _ (k : Card) (r : ℕ) (b : List ℕ) (ready : Ready k r) where
       rw x.start.call
       (asked_of tsn hsn s _ x.challenge _ _
       (judge-manager k.cells r ready.0 ready.1 s _ x.host x.start.sp x.challenge x.authority none x.start.asks sp.1
-      (implied (eqb x.start.sp U.locking_sp) _ (λ e. x.start.on (sym sp.0 ∙ e))) x.short
+      (is_true _ (dec-imp (eqb x.start.sp U.locking_sp) _ (dec-on _) (dec-on _)) (λ e. x.start.on (sym sp.0 ∙ e))) x.short
       (ap (λ l. U.who_in l (uid_of s x.authority)) sp.0 ∙ x.names))
       x.bytes)
 
@@ -145,12 +136,12 @@ module _ (k : Card) (r : ℕ) (b : List ℕ) (ready : Ready k r) where
   -- the session's own numbers are not 0, 0
   not-manager : sound k ≡ true → k.cells.session.live ≡ true → Z.is_manager k.cells.session.tsn k.cells.session.hsn ≡ true → ⊥
   not-manager h live e =
-      let z : k.cells.session.tsn.0 ≡ 0 = eqb-true _ _ (both (eqb k.cells.session.tsn.0 0) _ e).0 in
+      let z : k.cells.session.tsn.0 ≡ 0 = eqb-true _ _ (and_parts (eqb k.cells.session.tsn.0 0) _ e).0 in
       let l : 1 ≤ k.cells.session.tsn.0 = ((sound-decides k).holds h).session.tsn live in
       omega arith
 
   its_own : k.cells.session.live ≡ true → Z.is_session k.cells.session k.cells.session.tsn k.cells.session.hsn ≡ true
-  its_own live = all_three _ _ _ live (eq-eqb k.cells.session.tsn.0 _ refl) (eq-eqb k.cells.session.hsn.0 _ refl)
+  its_own live = and_from _ _ live (and_from _ _ (eq-eqb k.cells.session.tsn.0 _ refl) (eq-eqb k.cells.session.hsn.0 _ refl))
 
   on-packet : (s : List ℕ) → sound k ≡ true
       → ((start count : ℕ) → opened_of s ≡ Some (record { tsn = record { 0 = 0 }; hsn = record { 0 = 0 }; start = start; len = count }) → k.cells.session.live ≡ false
@@ -168,23 +159,16 @@ module _ (k : Card) (r : ℕ) (b : List ℕ) (ready : Ready k r) where
         cond_ind Compared (Z.is_session own own.tsn own.hsn) _ _ (λ _. in-session _ _ t start x) (λ m. absurd (true≢false (sym (its_own live) ∙ m)))),
   )
 
-  heard-compared : (room : ℕ) (s : List ℕ) → (sound k ≡ true → Compared (Z.hear_packet k.cells s (opened_of s))) → Compared (Z.heard k room s)
-  unfolding Z.heard
-  heard-compared room s f =
-      cond_ind Compared (not (sound k)) _ _ (λ _. turned-away 1 (λ z. omega arith)) λ h.
-      cond_ind Compared (ltb room Z.max_bytes) _ _ (λ _. turned-away 2 (λ z. omega arith)) λ _.
-      cond_ind Compared (ltb Z.max_bytes (length s)) _ _ (λ _. turned-away 3 (λ z. omega arith)) λ _. f (not-false _ h)
-
   by-packet : (room : ℕ) (s : List ℕ) → Compares k (packet room s) r b → Compared (Z.heard k room s)
   by-packet room s (inl (none, x)) =
-      let e : s ≡ x.request = same-request room s x.room x.request x.event in
-      heard-compared room s
-      (λ h. (on-packet s h).0 x.start x.count (ap opened_of e ∙ x.envelope) none
+      let e : s ≡ x.request = cc x.event in
+      heard-ind Compared turned-away k room s
+      (λ h _ _. (on-packet s h).0 x.start x.count (ap opened_of e ∙ x.envelope) none
       (subst (λ (t : List ℕ). Challenges k.cells.tables.active r b (take (x.start + x.count) t) x.start) (sym e) x.payload))
   by-packet room s (inr (live, x)) =
-      let e : s ≡ x.request = same-request room s x.room x.request x.event in
-      heard-compared room s
-      (λ h. (on-packet s h).1 x.start x.count (ap opened_of e ∙ x.envelope) live
+      let e : s ≡ x.request = cc x.event in
+      heard-ind Compared turned-away k room s
+      (λ h _ _. (on-packet s h).1 x.start x.count (ap opened_of e ∙ x.envelope) live
       (subst (λ (t : List ℕ). Authenticates k.cells.session.locking r b (take (x.start + x.count) t) x.start) (sym e) x.payload))
 
 pub compares : (k : Card) (room : ℕ) (s : List ℕ) (r : ℕ) (b : List ℕ)

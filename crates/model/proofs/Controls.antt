@@ -2,26 +2,24 @@
 use Rattle.std.specs.Prelude.{Some}
 use Prim.Native.Nat.{ℕ, ◌+◌}
 use mathlib.Core.Path.{◌≡◌, refl}
-use mathlib.Core.Bool.{Bool, true, false, not, cond}
 use mathlib.Core.List.{List}
 use mathlib.Core.Logic.{◌≢◌}
 use native.Mathlib.Omega.{arith}
-use lib.ListN.{length, take}
-use lib.Dec.{ltb}
+use lib.ListN.{take}
 use Rattle.packet.specs.Envelope.{opened_of}
 use Rattle.payload.specs.declared.Payload.{Payload}
 use Rattle.payload.specs.declared.Payload.TheVariants as P
 use Rattle.payload.specs.Payload.{payload_at}
 use Rattle.model.specs.Types.{Tsn, Hsn, Card}
 use Rattle.model.specs.declared.Decision.TheVariants as D
-use Rattle.model.specs.Sound.{sound}
 use Rattle.model.specs.Vault.{decided}
 use Rattle.model.specs.Step as Z
 use Rattle.model.specs.Step.{packet}
 use Rattle.model.specs.Seen as E
 use Rattle.model.specs.Signs as S
 use Rattle.model.specs.Proved.{Control}
-use Rattle.model.proofs.Cases.{cond_ind}
+use Rattle.model.proofs.Cases.{cond_ind, of_cond}
+use Rattle.model.proofs.Heard.{manager-ind, heard-ind}
 
 module _ (k : Card) where
   -- what is heard, where it is answered
@@ -33,36 +31,15 @@ module _ (k : Card) where
   turned-away x n h e = absurd (h e)
 
   on-manager : (tsn : Tsn) (hsn : Hsn) (s : List ℕ) (x : Payload) → Signed x (Z.hear_manager k.cells tsn hsn s x)
-  unfolding Z.hear_manager
-  on-manager tsn hsn s (P.Call object method params) = λ _. tt
-  on-manager tsn hsn s P.EndSession = turned-away P.EndSession 6 (λ z. omega arith)
-  on-manager tsn hsn s P.Begin = turned-away P.Begin 6 (λ z. omega arith)
-  on-manager tsn hsn s P.Commit = turned-away P.Commit 6 (λ z. omega arith)
-  on-manager tsn hsn s P.Abandon = turned-away P.Abandon 6 (λ z. omega arith)
-  on-manager tsn hsn s P.Broken = turned-away P.Broken 6 (λ z. omega arith)
-
-  begins : (s : List ℕ) (b : Bool) → S.decided_sign s (cond b D.BeganAlready D.Began) ≡ cond b S.idles S.begins
-  unfolding S.decided_sign
-  begins s true = refl
-  begins s false = refl
-
-  commits : (s : List ℕ) (b : Bool) → S.decided_sign s (cond b D.Committed D.NoneOpen) ≡ cond b S.commits S.idles
-  unfolding S.decided_sign
-  commits s true = refl
-  commits s false = refl
-
-  abandons : (s : List ℕ) (b : Bool) → S.decided_sign s (cond b D.Abandoned D.NoneOpen) ≡ cond b S.abandons S.idles
-  unfolding S.decided_sign
-  abandons s true = refl
-  abandons s false = refl
+  on-manager tsn hsn s x = manager-ind (Signed x) (turned-away x) k.cells tsn hsn s x (λ object method params e. rw e (λ _. tt))
 
   in-session : (tsn : Tsn) (hsn : Hsn) (s : List ℕ) (x : Payload) → Signed x (Z.judged tsn hsn s (Z.judge_session k.cells s x))
   unfolding Z.judge_session decided S.packet_sign S.taken_sign S.decided_sign S.query_in S.query_of E.of_heard E.taken_of
   in-session tsn hsn s (P.Call object method params) = λ _. tt
   in-session tsn hsn s P.EndSession = λ _. refl
-  in-session tsn hsn s P.Begin = λ _. begins s k.cells.undo.live
-  in-session tsn hsn s P.Commit = λ _. commits s k.cells.undo.live
-  in-session tsn hsn s P.Abandon = λ _. abandons s k.cells.undo.live
+  in-session tsn hsn s P.Begin = λ _. of_cond (S.decided_sign s) k.cells.undo.live D.BeganAlready D.Began
+  in-session tsn hsn s P.Commit = λ _. of_cond (S.decided_sign s) k.cells.undo.live D.Committed D.NoneOpen
+  in-session tsn hsn s P.Abandon = λ _. of_cond (S.decided_sign s) k.cells.undo.live D.Abandoned D.NoneOpen
   in-session tsn hsn s P.Broken = λ _. refl
 
   on-packet : (s : List ℕ) (tsn : Tsn) (hsn : Hsn) (start count : ℕ)
@@ -75,13 +52,9 @@ module _ (k : Card) where
 
   heard-signed : (room : ℕ) (s : List ℕ) (tsn : Tsn) (hsn : Hsn) (start count : ℕ) → opened_of s ≡ Some (record { tsn = tsn; hsn = hsn; start = start; len = count })
       → Signed (payload_at (take (start + count) s) start) (Z.heard k room s)
-  unfolding Z.heard
   heard-signed room s tsn hsn start count e =
       let x = payload_at (take (start + count) s) start in
-      cond_ind (Signed x) (not (sound k)) _ _ (λ _. turned-away x 1 (λ z. omega arith)) λ _.
-      cond_ind (Signed x) (ltb room Z.max_bytes) _ _ (λ _. turned-away x 2 (λ z. omega arith)) λ _.
-      cond_ind (Signed x) (ltb Z.max_bytes (length s)) _ _ (λ _. turned-away x 3 (λ z. omega arith)) λ _.
-      rw e (on-packet s tsn hsn start count)
+      heard-ind (Signed x) (turned-away x) k room s (λ _ _ _. rw e (on-packet s tsn hsn start count))
 
   pub controls : (room : ℕ) (s : List ℕ) (tsn : Tsn) (hsn : Hsn) (start count : ℕ)
       → (Z.command k room s).number ≡ 0 → opened_of s ≡ Some (record { tsn = tsn; hsn = hsn; start = start; len = count })

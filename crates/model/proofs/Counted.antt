@@ -3,7 +3,7 @@ use Prim.Native.Nat.{ℕ}
 use mathlib.Core.Path.{◌≡◌, refl, sym, ◌∙◌, ap}
 use mathlib.Core.Bool.{false}
 use mathlib.Core.List.{List, [], ◌∷◌}
-use Rattle.model.specs.Types.{PinRow, Cells, Card}
+use Rattle.model.specs.Types.{Cells, Card}
 use Rattle.model.specs.Record as R
 use Rattle.model.specs.Step.{Event, next, run}
 use Rattle.model.specs.Laws.{SoundRecord, Made}
@@ -11,7 +11,7 @@ use Rattle.model.specs.Signs as S
 use Rattle.model.specs.Tries.{wrongs_after, wrongs, TriesCounted}
 use Rattle.model.specs.Proved.{open_after, proved_after, is_open, is_proved, ProvedAsTold}
 use Rattle.model.proofs.Soundness.{sound-decides}
-use Rattle.model.proofs.Parts.{same-all}
+use Rattle.model.proofs.Parts.{same-all, no-tries}
 use Rattle.model.proofs.Reached.{next-sound, factory-sound, run_sound}
 use Rattle.model.proofs.Came.{where-asked, comes}
 use Rattle.model.proofs.Verdicts.{signs-of-pins}
@@ -44,7 +44,7 @@ unfolding is_open is_proved wrongs
 fresh r n msid = record {
   live = refl;
   proved = same-all R.pin_count r false;
-  tries = ap (λ (x : PinRow). x.tries) (same-all {A = PinRow} R.pin_count r (record { tries = 0 }));
+  tries = no-tries r;
 }
 
 stands : (r n : ℕ) (msid : List ℕ) (es : List Event) → Made n msid → Stands r (run (R.factory_card n msid) es).cells (S.past (R.factory_card n msid) es [])

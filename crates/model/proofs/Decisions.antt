@@ -2,11 +2,9 @@
 use Rattle.std.specs.Prelude.{Option, Some, None, Result, Ok, Err}
 use Prim.Native.Nat.{ℕ, ◌+◌, ◌≤◌}
 use mathlib.Core.Path.{◌≡◌, refl}
-use mathlib.Core.Bool.{Bool, true, false, not, cond}
+use mathlib.Core.Bool.{Bool, true, false}
 use mathlib.Core.List.{List}
-use borrow.Author.Tests.{ltb-false, not-false}
 use lib.ListN.{length, take}
-use lib.Dec.{ltb}
 use Rattle.packet.specs.declared.Packet.{Packet}
 use Rattle.packet.specs.Envelope.{opened_of}
 use Rattle.payload.specs.declared.Payload.{Payload}
@@ -20,19 +18,19 @@ use Rattle.params.specs.declared.Columns.{Columns}
 use Rattle.params.specs.declared.Offence.{Offence}
 use Rattle.value.specs.Value.{Values}
 use Rattle.value.specs.Read.{Out}
-use Rattle.model.specs.Types.{Tsn, Hsn, Cells, Vault, Card, Object, Who, Change, Decision, Judged}
+use Rattle.model.specs.Types.{Cells, Vault, Card, Object, Who, Change, Decision, Judged}
 use Rattle.model.specs.declared.Who.TheVariants as W
 use Rattle.model.specs.declared.Decision.TheVariants as D
 use Rattle.model.specs.declared.Judged.TheVariants.{Settled, Compare}
 use Rattle.model.specs.Judge.{need, Ends, judge_who, judge_start, judge_manager, judge_proof, judge_get, judge_set, judge_bare, judge_method}
-use Rattle.model.specs.Vault.{decided}
-use Rattle.model.specs.Step.{Heard, turned, judged, is_manager, is_session, hear_manager, judge_session, hear_packet, heard, Event, packet, powered, was_reset, asked}
+use Rattle.model.specs.Vault.{decided, matches, part}
+use Rattle.model.specs.Step.{Heard, turned, judged, is_session, judge_session, heard, Event, packet, powered, was_reset, asked}
 use Rattle.model.specs.Seen.{took, taken, taken_of}
 use Rattle.model.specs.Sound.{sound}
 use Rattle.model.specs.Sent.{Sends}
-use Rattle.model.proofs.Cases.{cond_ind}
-use Rattle.model.proofs.Moves.{never}
+use Rattle.model.proofs.Cases.{cond_ind, whichever}
 use Rattle.model.proofs.Sent.{session-decides}
+use Rattle.model.proofs.Heard.{manager-ind, packet-ind, heard-ind}
 
 -- what a decision says of the cells that it was made on, and of the payload: Sent says that it came in for the session
 abbrev pub Fits : (Payload → Type 0) → Cells → Decision → Type 0
@@ -66,10 +64,6 @@ module _ (Sent : Payload → Type 0) (c : Cells) where
   unfolding need FitsAll
   needs true d j f g = g
   needs false d j f g = f
-
-  either : (b : Bool) (i j : Judged) → FitsAll Sent c i → FitsAll Sent c j → FitsAll Sent c (cond b i j)
-  either true i j f g = f
-  either false i j f g = g
 
   who : (e : Ends) (w : Who) (x : Slot) → Fits Sent c e.barred → Fits Sent c e.full → ((r : ℕ) → Fits Sent c (e.wrong r)) → ((v : Who) → Fits Sent c (e.right v))
       → FitsAll Sent c (judge_who c e w x)
@@ -109,52 +103,22 @@ module _ (Sent : Payload → Type 0) (c : Cells) where
 
   called : (s : List ℕ) (o : Object) (m : ℕ) (vs : Out Values) → FitsAll Sent c (judge_method c s o m vs)
   unfolding judge_method
-  called s o m vs = search (needs, either, get, put, authenticate, bare) depth 12
+  called s o m vs = search (needs, whichever (FitsAll Sent c), get, put, authenticate, bare) depth 12
 
   -- the control payloads go by whether a transaction is open
-  begins : (b : Bool) → Sent P.Begin → c.undo.live ≡ b → Fits Sent c (cond b D.BeganAlready D.Began)
-  begins true i h = tt
-  begins false i h = (i, h)
-
-  commits : (b : Bool) → Sent P.Commit → c.undo.live ≡ b → Fits Sent c (cond b D.Committed D.NoneOpen)
-  commits true i h = (i, h)
-  commits false i h = tt
-
-  abandons : (b : Bool) → Sent P.Abandon → c.undo.live ≡ b → Fits Sent c (cond b D.Abandoned D.NoneOpen)
-  abandons true i h = (i, h)
-  abandons false i h = tt
-
   session : (s : List ℕ) (p : Payload) → Sent p → FitsAll Sent c (judge_session c s p)
   unfolding judge_session
   session s (P.Call object method params) i = called s _ _ _
   session s P.EndSession i = ends D.Ended i
-  session s P.Begin i = ends _ (begins c.undo.live i refl)
-  session s P.Commit i = ends _ (commits c.undo.live i refl)
-  session s P.Abandon i = ends _ (abandons c.undo.live i refl)
+  session s P.Begin i = ends _ (cond_ind (Fits Sent c) c.undo.live _ _ (λ _. tt) (λ h. (i, h)))
+  session s P.Commit i = ends _ (cond_ind (Fits Sent c) c.undo.live _ _ (λ h. (i, h)) (λ _. tt))
+  session s P.Abandon i = ends _ (cond_ind (Fits Sent c) c.undo.live _ _ (λ h. (i, h)) (λ _. tt))
   session s P.Broken i = ends D.Broke i
 
 -- so does what is heard, and what is taken of it
 unfoldable FitsHeard : (Payload → Type 0) → Cells → Heard → Type 0
 FitsHeard Sent c (turned n) = Unit {0}
 FitsHeard Sent c (judged tsn hsn s j) = FitsAll Sent c j
-
-module _ (Sent : Payload → Type 0) (c : Cells) where
-  away : (n : ℕ) → FitsHeard Sent c (turned n)
-  unfolding FitsHeard
-  away n = tt
-
-  heard-of : (tsn : Tsn) (hsn : Hsn) (s : List ℕ) (j : Judged) → FitsAll Sent c j → FitsHeard Sent c (judged tsn hsn s j)
-  unfolding FitsHeard
-  heard-of tsn hsn s j f = f
-
-  by-manager : (tsn : Tsn) (hsn : Hsn) (s : List ℕ) (p : Payload) → FitsHeard Sent c (hear_manager c tsn hsn s p)
-  unfolding hear_manager
-  by-manager tsn hsn s (P.Call object method params) = heard-of _ _ _ _ (manager Sent c s object method _)
-  by-manager tsn hsn s P.EndSession = away _
-  by-manager tsn hsn s P.Begin = away _
-  by-manager tsn hsn s P.Commit = away _
-  by-manager tsn hsn s P.Abandon = away _
-  by-manager tsn hsn s P.Broken = away _
 
 module _ (k : Card) (room : ℕ) (s : List ℕ) where
   abbrev Own : Payload → Type 0
@@ -172,49 +136,29 @@ module _ (k : Card) (room : ℕ) (s : List ℕ) where
     session = (session-decides k p.tsn p.hsn).holds t;
   }
 
-  by-packet : sound k ≡ true → 2048 ≤ room → length s ≤ 2048 → (o : Option Packet) → opened_of s ≡ o → FitsHeard Own k.cells (hear_packet k.cells s o)
-  unfolding hear_packet
-  by-packet ok w f (Some p) e =
-      let tsn = p.tsn in
-      let hsn = p.hsn in
-      let start = p.start in
-      let r = take (start + p.len) s in
-      cond_ind (FitsHeard Own k.cells) (is_manager tsn hsn) _ _ (λ _. by-manager Own k.cells tsn hsn r (payload_at r start)) λ _.
-      cond_ind (FitsHeard Own k.cells) (is_session k.cells.session tsn hsn) _ _
-      (λ t. heard-of Own k.cells tsn hsn r _ (session Own k.cells r (payload_at r start) (own ok w f p e t)))
-      (λ _. away Own k.cells 5)
-  by-packet ok w f None e = away Own k.cells _
-
   by-heard : FitsHeard Own k.cells (heard k room s)
-  unfolding heard
+  unfolding FitsHeard
   by-heard =
-      cond_ind (FitsHeard Own k.cells) (not (sound k)) _ _ (λ _. away Own k.cells 1) λ e.
-      cond_ind (FitsHeard Own k.cells) (ltb room 2048) _ _ (λ _. away Own k.cells 2) λ w.
-      cond_ind (FitsHeard Own k.cells) (ltb 2048 (length s)) _ _ (λ _. away Own k.cells 3) λ f.
-      by-packet (not-false _ e) (ltb-false room 2048 w) (ltb-false 2048 (length s) f) (opened_of s) refl
+      let F = FitsHeard Own k.cells in
+      heard-ind F (λ _ _. tt) k room s λ ok w f.
+      packet-ind F (λ _ _. tt) k.cells s _
+      (λ p _ _. manager-ind F (λ _ _. tt) k.cells p.tsn p.hsn _ _ (λ object method params _. manager Own k.cells _ object method _))
+      (λ p e t. session Own k.cells _ _ (own ok w f p e t))
 
 module _ (Sent : Payload → Type 0) (c : Cells) where
-  both-fit : (r p n : ℕ) (x y : Decision) → FitsAll Sent c (Compare r p n x y) → FitsAll Sent c (Settled x) × FitsAll Sent c (Settled y)
-  unfolding FitsAll
-  both-fit r p n x y f = f
-
-  chosen : (b : Bool) (x y : Decision) → FitsAll Sent c (Settled x) → FitsAll Sent c (Settled y) → FitsAll Sent c (Settled (cond b x y))
-  chosen true x y f g = f
-  chosen false x y f g = g
-
   answers : (v : Vault) (s : List ℕ) (j : Judged) → FitsAll Sent c j → FitsAll Sent c (Settled (decided v s j))
-  unfolding decided
+  unfolding decided FitsAll
   answers v s (Settled d) f = f
-  answers v s (Compare r p n x y) f = let g = both-fit r p n x y f in search chosen
+  answers v s (Compare r p n x y) f = whichever (Fits Sent c) (matches v r (part s p n)) x y f.0 f.1
 
 by-taken : (k : Card) (Sent : Payload → Type 0) (h : Heard) → FitsHeard Sent k.cells h → (s : List ℕ) (d : Decision) → taken_of k h ≡ took s d → Fits Sent k.cells d
 unfolding taken_of FitsAll FitsHeard
-by-taken k Sent (turned n) f s d e = never s d e
+by-taken k Sent (turned n) f s d e = absurd cc
 by-taken k Sent (judged tsn hsn t j) f s d e = let q : decided k.vault t j ≡ d = cc in rw q at (answers Sent k.cells k.vault t j f)
 
 pub decision-fits : (k : Card) (e : Event) (s : List ℕ) (d : Decision) → taken k e ≡ took s d → Fits (Sends k e) k.cells d
 unfolding taken
 decision-fits k (packet room p) s d e = by-taken k (Sends k (packet room p)) (heard k room p) (by-heard k room p) s d e
-decision-fits k powered s d e = never s d e
-decision-fits k was_reset s d e = never s d e
-decision-fits k (asked write start count) s d e = never s d e
+decision-fits k powered s d e = absurd cc
+decision-fits k was_reset s d e = absurd cc
+decision-fits k (asked write start count) s d e = absurd cc

@@ -14,7 +14,7 @@ use Rattle.item.specs.declared.Slot.{Slot}
 use Rattle.item.specs.declared.Slot.TheVariants as S
 use Rattle.params.specs.declared.Columns.{Columns}
 use Rattle.params.specs.Columns.{column_at}
-use Rattle.model.specs.Types.{Tsn, Hsn, Tables, Card, Object, Who, Status, Change}
+use Rattle.model.specs.Types.{Tsn, Hsn, Tables, Card, Object, Who, Change}
 use Rattle.model.specs.declared.Object.TheVariants as O
 use Rattle.model.specs.declared.Who.TheVariants as W
 use Rattle.model.specs.declared.Change.TheVariants as C
@@ -33,39 +33,23 @@ use Rattle.model.proofs.Legal as L
 use Rattle.model.proofs.Legal.{Placed}
 use Rattle.model.proofs.Ordered.{Rowed}
 use Rattle.model.proofs.Standing.{flag-as, resets-as, only_at, rows_as}
+use Rattle.model.proofs.Moves.{cleared-tries}
+use Rattle.model.proofs.Cases.{cond_ind}
 
 -- ---- nothing changes
 module _ (j : Card) (s : List ℕ) where
-  pub by-refuse : (x : Status) → after j s (D.Refuse x) ≡ j
-  unfolding A.apply obey
-  by-refuse x = refl
-
-  pub by-not-started : (x : Status) → after j s (D.NotStarted x) ≡ j
-  unfolding A.apply obey
-  by-not-started x = refl
-
-  pub by-denied : after j s D.Denied ≡ j
-  unfolding A.apply obey
-  by-denied = refl
-
-  pub by-told : (o : Object) (first last : ℕ) → after j s (D.Told o first last) ≡ j
-  unfolding A.apply obey
-  by-told o first last = refl
-
   by-nothing : after j s (D.Done C.Nothing) ≡ j
   unfolding A.apply A.change obey obey_change
   by-nothing = refl
 
 -- ---- PINs
 next-tsn : (x : Tsn) → F.NextTsn x (A.next_tsn x)
-next-tsn x = go (ltb x.0 0xffffffff) refl
-  where
-    go : (b : Bool) → ltb x.0 0xffffffff ≡ b → When (x.0 < 0xffffffff) (cond b (x.0 + 1) 1 ≡ x.0 + 1) (cond b (x.0 + 1) 1 ≡ 1)
-    go true e = inl (ltb-true _ _ e, refl)
-    go false e = inr (λ (l : x.0 < 0xffffffff). omega (arith, ltb-false x.0 0xffffffff e), refl)
+next-tsn x =
+    cond_ind (λ n. When (x.0 < 0xffffffff) (n ≡ x.0 + 1) (n ≡ 1)) (ltb x.0 0xffffffff) _ _ (λ e. inl (ltb-true _ _ e, refl))
+    (λ e. inr (λ (l : x.0 < 0xffffffff). omega (arith, ltb-false x.0 0xffffffff e), refl))
 
 module _ (j : Card) (s : List ℕ) (sound : SoundRecord j) where
-  missed : (r : ℕ) → r < 13 → R.tries_at j.cells r < 5 → F.Missed j (W.Row r) (record { cells = A.missed j.cells r; vault = j.vault })
+  pub missed : (r : ℕ) → r < 13 → R.tries_at j.cells r < 5 → F.Missed j (W.Row r) (record { cells = A.missed j.cells r; vault = j.vault })
   missed r l m = record {
     tables = refl;
     pins = only_at (record { tries = 0 }) r _ j.cells.pins _ (omega (arith, sound.pins)) (rw (lt-ltb _ _ m) refl);
@@ -76,14 +60,6 @@ module _ (j : Card) (s : List ℕ) (sound : SoundRecord j) where
     undo = refl;
     made = (refl, refl);
   }
-
-  pub by-missed : (r : ℕ) → r < 13 → R.tries_at j.cells r < 5 → F.Missed j (W.Row r) (after j s (D.Missed r))
-  unfolding A.apply obey
-  by-missed r l m = missed r l m
-
-  pub by-mistaken : (r : ℕ) → r < 13 → R.tries_at j.cells r < 5 → F.Missed j (W.Row r) (after j s (D.Mistaken r))
-  unfolding A.apply obey
-  by-mistaken r l m = missed r l m
 
   tries-cleared : (r : ℕ) → r < 13 → F.TriesAt r (λ x y. y ≡ 0) j.cells.pins (set j.cells.pins r (record { tries = 0 }))
   tries-cleared r l = only_at (record { tries = 0 }) r _ j.cells.pins _ (omega (arith, sound.pins)) refl
@@ -102,38 +78,30 @@ module _ (j : Card) (s : List ℕ) (sound : SoundRecord j) where
   proves W.Class h l e = refl
   proves (W.Row r) h l e = only_at false r _ l true (omega (arith, h r refl, e)) refl
 
-  -- all but Tries stays
-  clears : (w : Who) → A.cleared j.cells w ≡ R.with_pins j.cells (A.cleared j.cells w).pins
-  unfolding A.cleared
-  clears W.Unknown = refl
-  clears W.Anybody = refl
-  clears W.Class = refl
-  clears (W.Row r) = refl
-
   pub by-started : (locking : Bool) (hsn : Hsn) (w : Who) → Rowed w → F.Started j locking hsn w (after j s (D.Started locking hsn w))
   unfolding A.apply obey
   by-started locking hsn w h = record {
-    tables = ap (λ x. x.tables) (clears w);
+    tables = ap (λ x. x.tables) (cleared-tries j.cells w);
     pins = cleared w h;
     session = record { live = refl; to = refl; by_tsn = refl; by_hsn = refl; proved = proves w h (replicate 13 false) refl };
     next = next-tsn j.cells.next;
     live = refl;
     kept = refl;
-    undo = ap (λ x. x.undo) (clears w);
-    made = (ap (λ x. x.n) (clears w), ap (λ x. x.msid) (clears w));
+    undo = ap (λ x. x.undo) (cleared-tries j.cells w);
+    made = (ap (λ x. x.n) (cleared-tries j.cells w), ap (λ x. x.msid) (cleared-tries j.cells w));
   }
 
   pub by-proved : (w : Who) → j.cells.session.live ≡ true → Rowed w → F.Proved j w (after j s (D.Proved w))
   unfolding A.apply obey
   by-proved w live h = record {
-    tables = ap (λ x. x.tables) (clears w);
+    tables = ap (λ x. x.tables) (cleared-tries j.cells w);
     pins = cleared w h;
     session = record { live = live; to = refl; by_tsn = refl; by_hsn = refl; proved = proves w h j.cells.session.proved sound.session.many };
-    next = ap (λ x. x.next) (clears w);
+    next = ap (λ x. x.next) (cleared-tries j.cells w);
     live = refl;
     kept = refl;
-    undo = ap (λ x. x.undo) (clears w);
-    made = (ap (λ x. x.n) (clears w), ap (λ x. x.msid) (clears w));
+    undo = ap (λ x. x.undo) (cleared-tries j.cells w);
+    made = (ap (λ x. x.n) (cleared-tries j.cells w), ap (λ x. x.msid) (cleared-tries j.cells w));
   }
 
   -- ---- Set
@@ -169,14 +137,6 @@ module _ (j : Card) (s : List ℕ) (sound : SoundRecord j) where
   flag-set g f old None e h = by-nothing j s ∙ ap with_tables (sym h)
   flag-set g f old (Some on) e h = e on
 
-  set-resettable : (on : Bool) → after j s (D.Done (C.PutResettable on)) ≡ with_tables (R.with_resettable j.cells.tables on)
-  unfolding A.apply A.change obey obey_change
-  set-resettable on = refl
-
-  set-enabled : (r : ℕ) (on : Bool) → after j s (D.Done (C.PutEnabled r on)) ≡ with_tables (R.with_enabled j.cells.tables r on)
-  unfolding A.apply A.change obey obey_change
-  set-enabled r on = refl
-
   by-range : (t : Columns) (k : ℕ) → k < 5 → F.SetTo j s t (O.Range k) (after j s (D.Done (C.PutRange k (J.edit_in s t))))
   unfolding A.apply A.change obey obey_change
   by-range t k l =
@@ -200,19 +160,19 @@ module _ (j : Card) (s : List ℕ) (sound : SoundRecord j) where
 
   pub by_set : (t : Columns) (b : Bool) (o : Object) → Placed b o → J.values_ok j.cells s t o ≡ true
       → F.SetTo j s t o (after j s (D.Done (J.change_in s t o)))
-  unfolding J.values_ok J.change_in
+  unfolding J.values_ok J.change_in A.apply A.change obey obey_change
   by_set t b o L.pin_sid h = pin-set 0 (omega arith) (column_at t 3) h
   by_set t b o L.pin_msid h = by-nothing j s
   by_set t b o L.tper_info h =
       let u = j.cells.tables in
-      rw (flag-set (λ on. C.PutResettable on) (R.with_resettable u) u.resettable (J.flag_in (column_at t 8)) set-resettable refl)
+      rw (flag-set (λ on. C.PutResettable on) (R.with_resettable u) u.resettable (J.flag_in (column_at t 8)) (λ on. refl) refl)
       (tabled _ _ (record { active = refl; rows = refl; mbr = refl; enabled = refl; resettable = flag-as (column_at t 8) u.resettable }))
   by_set t b o L.sp_admin h = by-nothing j s
   by_set t b o L.sp_locking h = by-nothing j s
   by_set t b o L.this_sp h = by-nothing j s
   by_set t b o (L.authority {r = r} l m) h =
       let u = j.cells.tables in
-      rw (flag-set (λ on. C.PutEnabled r on) (R.with_enabled u r) (get_or u.enabled r false) (J.flag_in (column_at t 5)) (set-enabled r)
+      rw (flag-set (λ on. C.PutEnabled r on) (R.with_enabled u r) (get_or u.enabled r false) (J.flag_in (column_at t 5)) (λ on. refl)
       (ap (λ (x : List Bool). record { active = u.active; rows = u.rows; mbr = u.mbr; enabled = x; resettable = u.resettable }) (set-get_or u.enabled r false)))
       (tabled _ _ (record {
         active = refl;

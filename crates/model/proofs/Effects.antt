@@ -1,6 +1,6 @@
 -- Each call does to the record what is said of its end.
 use Prim.Native.Nat.{ℕ, ◌+◌, ◌-◌}
-use mathlib.Core.Path.{◌≡◌, sym, ◌∙◌, ap, subst}
+use mathlib.Core.Path.{◌≡◌, sym, ◌∙◌, ap, subst, refl}
 use mathlib.Core.Bool.{true}
 use mathlib.Core.List.{List}
 use lib.ListN.{take}
@@ -9,7 +9,7 @@ use Rattle.value.specs.Read.{values_at}
 use Rattle.model.specs.Types.{Card, Object, Who, Decision, Judged}
 use Rattle.model.specs.declared.Who.TheVariants as W
 use Rattle.model.specs.Uids as U
-use Rattle.model.specs.Vault.{decided}
+use Rattle.model.specs.Vault.{decided, obey}
 use Rattle.model.specs.Answer.{told}
 use Rattle.model.specs.Step.{judged, judge_session, reply_to, heard, after, command}
 use Rattle.model.specs.Laws.{SoundRecord}
@@ -25,6 +25,7 @@ use Rattle.model.proofs.Carried as R
 use Rattle.model.proofs.Statuses as S
 use Rattle.model.proofs.Effected as X
 use Rattle.model.proofs.Telling as T
+use Rattle.model.specs.Apply.{apply}
 
 -- the record after what is heard
 moved : (k : Card) (room : ℕ) (s r : List ℕ) (tsn hsn : ℕ) (j : Judged) → heard k room s ≡ judged (record { 0 = tsn }) (record { 0 = hsn }) r j
@@ -38,10 +39,11 @@ module _ (j k : Card) (s : List ℕ) (d : Decision) (e : k ≡ after j s d) wher
   by C x p h = subst C (sym (e ∙ ap (after j s) p)) h
 
   opens : SoundRecord j → R.Opens (Q.started j.cells d) (opening_effects j k)
+  unfolding apply obey
   opens sound = record {
-    plain = λ p. by (λ x. x ≡ j) _ p (X.by-refuse j s _);
-    refused = λ st p. by (λ x. x ≡ j) _ p.1 (X.by-not-started j s _);
-    wrong = λ w p. subst (λ (x : Who). F.Missed j x k) (sym p.1) (by (F.Missed j (W.Row p.0)) _ p.4 (X.by-missed j s sound p.0 p.2 p.3));
+    plain = λ p. by (λ x. x ≡ j) _ p refl;
+    refused = λ st p. by (λ x. x ≡ j) _ p.1 refl;
+    wrong = λ w p. subst (λ (x : Who). F.Missed j x k) (sym p.1) (by (F.Missed j (W.Row p.0)) _ p.4 (X.missed j s sound p.0 p.2 p.3));
     started = λ locking hsn w p. by (F.Started j locking hsn w) _ p.1 (X.by-started j s sound locking hsn w p.0);
   }
 
@@ -50,10 +52,11 @@ module _ (j k : Card) (s : List ℕ) (d : Decision) (e : k ≡ after j s d) wher
     here = U.object_in j.cells.session.locking u
 
     leads : SoundRecord j → j.cells.session.live ≡ true → R.Leads (decision j.cells s here d) (effects j s u here k bytes tsn hsn)
+    unfolding apply obey
     leads sound live = record {
-      refused = λ st p. by (λ x. x ≡ j) _ p.1 (X.by-refuse j s _);
+      refused = λ st p. by (λ x. x ≡ j) _ p.1 refl;
       got = λ first last p. (
-        by (λ x. x ≡ j) _ p.1 (X.by-told j s here first last),
+        by (λ x. x ≡ j) _ p.1 refl,
         (
           told j.cells here (last + 1 - first) first,
           T.tells j u first last p.0,
@@ -63,8 +66,8 @@ module _ (j k : Card) (s : List ℕ) (d : Decision) (e : k ≡ after j s d) wher
       put = λ t p.
           by (F.SetTo j s t here) _ p.1
           (X.by_set j s sound t _ here (L.object-placed j.cells.session.locking u) p.0);
-      denied = λ p. by (λ x. x ≡ j) _ p (X.by-denied j s);
-      wrong = λ w p. subst (λ (x : Who). F.Missed j x k) (sym p.1) (by (F.Missed j (W.Row p.0)) _ p.4 (X.by-mistaken j s sound p.0 p.2 p.3));
+      denied = λ p. by (λ x. x ≡ j) _ p refl;
+      wrong = λ w p. subst (λ (x : Who). F.Missed j x k) (sym p.1) (by (F.Missed j (W.Row p.0)) _ p.4 (X.missed j s sound p.0 p.2 p.3));
       proved = λ w p. by (F.Proved j w) _ p.1 (X.by-proved j s sound w live p.0);
       activated = λ p. by (F.Activated j) _ p (X.by-activate j s sound);
       reverted = λ p. by (F.Reverted j here) _ p (X.by-revert j s sound here);

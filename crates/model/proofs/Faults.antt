@@ -1,16 +1,15 @@
 -- Each test of the rules fails exactly where the fault is, as it is said.
 use Rattle.std.specs.Prelude.{Option, Some, None}
 use Prim.Native.Nat.{ℕ, zero, suc, ◌≤◌, ◌<◌}
-use mathlib.Core.Path.{◌≡◌, refl, sym, ap, ap₂}
-use mathlib.Core.Bool.{Bool, true, false, not, ◌&&◌, ◌||◌, true≢false}
+use mathlib.Core.Path.{◌≡◌, refl, ap₂}
+use mathlib.Core.Bool.{Bool, true, false, not, ◌&&◌, ◌||◌}
 use mathlib.Core.List.{List, [], ◌∷◌}
 use mathlib.Core.Logic.{◌≢◌, ◌⊎◌, inl, inr, ⊎_elim}
 use native.Mathlib.Nat.{not-suc-le-zero, eq-or-lt_of_le, le_of_suc-le-suc}
 use native.Mathlib.Omega.{arith}
-use borrow.Author.Tests.{eqb-true, eqb-false, leb-true, leb-false, ltb-true, ltb-false}
 use lib.Dec.{leb, ltb, eqb}
 use Rattle.ranges.specs.Decides.{Decides, imp, all}
-use Rattle.ranges.proofs.Decide.{map, from-true, from_false, dec-and, dec-not}
+use Rattle.ranges.proofs.Decide.{map, from-true, from_false, dec-and, dec-not, dec-le, dec-lt}
 use Rattle.item.specs.declared.Slot.{Slot}
 use Rattle.item.specs.declared.Slot.TheVariants as S
 use Rattle.params.specs.declared.Columns.{Columns}
@@ -26,6 +25,7 @@ use Rattle.model.specs.Judge as J
 use Rattle.model.specs.Vault.{part, same}
 use Rattle.model.specs.Literals.{last_of}
 use Rattle.model.specs.Wants as N
+use Rattle.model.proofs.Soundness.{dec-eq}
 
 -- ---- the rules walked: where the test fails the fault is there, and where it passes it is not
 pub look : (F : Judged → Type 0) {Q : Type 0} (b : Bool) (d : Decision) (j : Judged) → Decides (not b) Q → (Q → F (Settled d)) → ((Q → ⊥) → F j)
@@ -52,14 +52,10 @@ not-not true x = x
 not-not false x = x
 
 pub not-le : (m n : ℕ) → Decides (not (leb m n)) (n < m)
-not-le m n = go (leb m n) refl
-  where
-    go : (b : Bool) → leb m n ≡ b → Decides (not b) (n < m)
-    go true e = let l : m ≤ n = leb-true m n e in from_false refl (λ (h : n < m). omega arith)
-    go false e = from-true refl (leb-false m n e)
+not-le m n = map (λ (h : m ≤ n → ⊥). omega arith) (λ (l : n < m) (h : m ≤ n). omega arith) (dec-not _ (dec-le m n))
 
 pub not-eq : (m n : ℕ) → Decides (not (eqb m n)) (m ≢ n)
-not-eq m n = dec-not (eqb m n) (record { holds = eqb-true m n; fails = eqb-false m n })
+not-eq m n = dec-not (eqb m n) (dec-eq m n)
 
 -- a test that fails at some number
 pub not-all : (p : ℕ → Bool) (P : ℕ → Type 0) (n : ℕ) → ((i : ℕ) → i < n → Decides (not (p i)) (P i)) → Decides (not (all p n)) ((i : ℕ) × (i < n) × P i)
@@ -72,27 +68,23 @@ not-all p P (suc n) d =
     (not-and (p n) (all p n) (d n (omega arith)) (not-all p P n (λ i l. d i (omega arith))))
 
 -- ---- PINs
-abbrev is_empty : List ℕ → Bool
-is_empty [] = true
-is_empty (x ∷ xs) = false
-
 pub same-decides : (xs ys : List ℕ) → Decides (same xs ys) (xs ≡ ys)
 unfolding same
 same-decides [] [] = from-true refl refl
-same-decides [] (y ∷ ys) = from_false refl (λ e. true≢false (ap is_empty e))
-same-decides (x ∷ xs) [] = from_false refl (λ e. true≢false (sym (ap is_empty e)))
+same-decides [] (y ∷ ys) = from_false refl (λ e. cc)
+same-decides (x ∷ xs) [] = from_false refl (λ e. cc)
 same-decides (x ∷ xs) (y ∷ ys) =
     map (λ p. ap₂ ◌∷◌ p.0 p.1) (λ e. (cc, cc))
-    (dec-and _ _ (record { holds = eqb-true x y; fails = eqb-false x y }) (same-decides xs ys))
+    (dec-and _ _ (dec-eq x y) (same-decides xs ys))
 
 -- ---- slots
 pub free-decides : (x : Slot) → Decides (free x) (x ≡ S.Absent)
 unfolding free
 free-decides S.Absent = from-true refl refl
-free-decides (S.Int v) = from_false refl (λ e. true≢false (sym (ap free e)))
-free-decides (S.Bytes p n) = from_false refl (λ e. true≢false (sym (ap free e)))
-free-decides (S.List p) = from_false refl (λ e. true≢false (sym (ap free e)))
-free-decides S.Named = from_false refl (λ e. true≢false (sym (ap free e)))
+free-decides (S.Int v) = from_false refl (λ e. cc)
+free-decides (S.Bytes p n) = from_false refl (λ e. cc)
+free-decides (S.List p) = from_false refl (λ e. cc)
+free-decides S.Named = from_false refl (λ e. cc)
 
 -- a test at each column that is given
 pub not-given : (t : Columns) (f : ℕ → Bool) (P : ℕ → Type 0) → ((i : ℕ) → i < 20 → Decides (not (f i)) (P i)) → Decides (not (J.at_given f t)) (N.SomeGiven t P)
@@ -124,14 +116,9 @@ not-number (S.List p) = yes-fault
 not-number S.Named = yes-fault
 
 not-two : (v : ℕ) → Decides (not (ltb v 2)) ((v ≢ 0) × (v ≢ 1))
-not-two v = go (ltb v 2) refl
-  where
-    go : (b : Bool) → ltb v 2 ≡ b → Decides (not b) ((v ≢ 0) × (v ≢ 1))
-    go true e = let l : v < 2 = ltb-true v 2 e in from_false refl (λ h. h.1 (small v l h.0))
-      where
-        small : (v : ℕ) → v < 2 → v ≢ 0 → v ≡ 1
-        small v l n = ⊎_elim (λ (e : v ≡ 1). e) (λ (m : v < 1). absurd (n (omega arith))) (eq-or-lt_of_le (omega arith))
-    go false e = let l : 2 ≤ v = ltb-false v 2 e in from-true refl (λ (z : v ≡ 0). omega arith, λ (z : v ≡ 1). omega arith)
+not-two v =
+    map (λ (h : v < 2 → ⊥). (λ (z : v ≡ 0). omega arith, λ (z : v ≡ 1). omega arith)) (λ p (l : v < 2). omega (arith, p.0, p.1))
+    (dec-not _ (dec-lt v 2))
 
 pub not_flag : (x : Slot) → Decides (not (J.is_flag x)) (N.BadFlag x)
 unfolding J.is_flag
@@ -144,7 +131,7 @@ not_flag S.Named = yes-fault
 not_set : (x : Option Resets) → Decides (not (J.allowed_set x)) (x ≡ None)
 unfolding J.allowed_set
 not_set None = from-true refl refl
-not_set (Some x) = from_false refl (λ e. true≢false (ap J.allowed_set e))
+not_set (Some x) = from_false refl (λ e. cc)
 
 pub not-resets : (s : List ℕ) (x : Slot) → Decides (not (J.is_resets s x)) (N.BadResets s x)
 unfolding J.is_resets

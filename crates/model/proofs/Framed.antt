@@ -1,31 +1,26 @@
 -- What is sent is the envelope, a short payload and its pad: it fits the buffer, in whole fours.
-use Rattle.std.specs.Prelude.{Option, Some, None}
 use Prim.Native.Nat.{ℕ, ◌+◌, ◌%◌, ◌≤◌, ◌<◌}
 use mathlib.Core.Path.{◌≡◌, refl}
-use mathlib.Core.Bool.{true, not}
+use mathlib.Core.Bool.{true}
 use mathlib.Core.List.{List, []}
 use mathlib.Core.Logic.{◌≢◌}
 use native.Mathlib.Decide.{ℕ_discrete}
 use native.Mathlib.Omega.{arith}
-use lib.ListN.{length, take, length-append, length-replicate}
-use lib.Dec.{ltb, lit≤}
-use borrow.Author.Tests.{ltb-false, not-false}
-use Rattle.packet.specs.declared.Packet.{Packet}
-use Rattle.packet.specs.Envelope.{pad_of, packet_of, opened_of}
+use lib.ListN.{length, length-append, length-replicate}
+use lib.Dec.{lit≤}
+use Rattle.packet.specs.Envelope.{pad_of, packet_of}
 use Rattle.packet.proofs.Writes.{header-length}
-use Rattle.payload.specs.declared.Payload.{Payload}
-use Rattle.payload.specs.declared.Payload.TheVariants as P
-use Rattle.payload.specs.Payload.{payload_at}
-use Rattle.model.specs.Types.{Tsn, Hsn, Card}
+use Rattle.model.specs.Types.{Card}
 use Rattle.model.specs.Sound.{sound}
 use Rattle.model.specs.Vault.{decided}
 use Rattle.model.specs.Answer.{answer}
-use Rattle.model.specs.Step.{Heard, turned, judged, is_manager, is_session, judge_session, hear_manager, hear_packet, heard, broke, reply_to, command}
+use Rattle.model.specs.Step.{Heard, turned, judged, heard, broke, reply_to, command}
 use Rattle.model.specs.Short.{AnswersShort}
 use Rattle.model.proofs.Soundness.{sound-decides}
 use Rattle.model.proofs.Cases.{cond_ind}
 use Rattle.model.proofs.TurnedAway.{turned-away}
 use Rattle.model.proofs.Short.{answer-short, answer-some}
+use Rattle.model.proofs.Heard.{manager-ind, packet-ind, heard-ind}
 
 -- ---- a packet of a payload of n bytes
 pad-rest : (n : ℕ) → (pad_of n < 4) × ((56 + n + pad_of n) % 4 ≡ 0)
@@ -54,34 +49,11 @@ abbrev Heeded : Card → ℕ → Heard → Type 0
 Heeded k room (turned n) = n ≢ 0
 Heeded k room (judged tsn hsn s j) = (sound k ≡ true) × (2048 ≤ room)
 
-module _ (k : Card) (room : ℕ) (ok : sound k ≡ true) (wide : 2048 ≤ room) where
-  by-manager : (tsn : Tsn) (hsn : Hsn) (s : List ℕ) (p : Payload) → Heeded k room (hear_manager k.cells tsn hsn s p)
-  unfolding hear_manager
-  by-manager tsn hsn s (P.Call object method params) = (ok, wide)
-  by-manager tsn hsn s P.EndSession = λ z. omega arith
-  by-manager tsn hsn s P.Begin = λ z. omega arith
-  by-manager tsn hsn s P.Commit = λ z. omega arith
-  by-manager tsn hsn s P.Abandon = λ z. omega arith
-  by-manager tsn hsn s P.Broken = λ z. omega arith
-
-  by-packet : (s : List ℕ) (x : Option Packet) → Heeded k room (hear_packet k.cells s x)
-  unfolding hear_packet
-  by-packet s (Some p) =
-      let tsn = p.tsn in
-      let hsn = p.hsn in
-      let start = p.start in
-      let r = take (start + p.len) s in
-      cond_ind (Heeded k room) (is_manager tsn hsn) _ _ (λ _. by-manager tsn hsn r (payload_at r start)) λ _.
-      cond_ind (Heeded k room) (is_session k.cells.session tsn hsn) (judged tsn hsn r (judge_session k.cells r (payload_at r start))) (turned 5) (λ _. (ok, wide)) (λ _ z. omega arith)
-  by-packet s None = λ z. omega arith
-
 heeded : (k : Card) (room : ℕ) (s : List ℕ) → Heeded k room (heard k room s)
-unfolding heard
 heeded k room s =
-    cond_ind (Heeded k room) (not (sound k)) _ _ (λ _ z. omega arith) λ e.
-    cond_ind (Heeded k room) (ltb room 2048) _ _ (λ _ z. omega arith) λ f.
-    cond_ind (Heeded k room) (ltb 2048 (length s)) _ _ (λ _ z. omega arith) λ _.
-    by-packet k room (not-false (sound k) e) (ltb-false room 2048 f) s (opened_of s)
+    let F = Heeded k room in
+    heard-ind F (λ _ z. z) k room s λ ok wide _.
+    packet-ind F (λ _ z. z) k.cells s _ (λ p _ _. manager-ind F (λ _ z. z) k.cells p.tsn p.hsn _ _ (λ _ _ _ _. (ok, wide))) (λ _ _ _. (ok, wide))
 
 -- ---- the answer
 by-heard : (k : Card) (room : ℕ) (h : Heard) → Heeded k room h → (reply_to k h).number ≡ 0 → Sent (reply_to k h).bytes × (2048 ≤ room)

@@ -1,14 +1,14 @@
 -- By which packet a PIN is compared, and what a decision comes from.
+use Rattle.std.proofs.lemmas.Bool.{and_parts}
 use Rattle.std.specs.Prelude.{Option, Some, None}
 use Prim.Native.Nat.{ℕ, ◌+◌}
 use mathlib.Core.Path.{◌≡◌, refl, sym, ◌∙◌, ap, ap₂}
-use mathlib.Core.Bool.{true, false, not}
+use mathlib.Core.Bool.{true, false}
 use mathlib.Core.List.{List}
 use mathlib.Core.Logic.{◌≢◌, inl, inr}
 use native.Mathlib.Omega.{arith}
 use borrow.Author.Tests.{eqb-true}
-use lib.ListN.{length}
-use lib.Dec.{ltb, eqb}
+use lib.Dec.{eqb}
 use Rattle.packet.specs.declared.Packet.{Packet}
 use Rattle.packet.specs.Envelope.{opened_of}
 use Rattle.payload.specs.declared.Payload.{Payload}
@@ -17,20 +17,20 @@ use Rattle.payload.specs.Payload.{payload_at}
 use Rattle.model.specs.Types.{Tsn, Hsn, Card, Object, Decision, Judged}
 use Rattle.model.specs.declared.Object.TheVariants as O
 use Rattle.model.specs.declared.Decision.TheVariants as D
-use Rattle.model.specs.Sound.{sound}
 use Rattle.model.specs.Uids as U
 use Rattle.model.specs.Access.{in_table}
 use Rattle.model.specs.Judge as J
 use Rattle.model.specs.Vault.{part}
 use Rattle.model.specs.Step as Z
 use Rattle.model.specs.Step.{Event, packet}
-use Rattle.model.specs.Packets.{OnZeros, OnSession, Compares, CallsMethod, Reverts, ComesFrom}
-use Rattle.model.proofs.Cases.{cond_ind, both}
+use Rattle.model.specs.Packets.{OnZeros, OnSession, Compares, CallsMethod, Reverts, ComesFrom, Changes}
+use Rattle.model.proofs.Cases.{cond_ind, whichever}
 use Rattle.model.proofs.Accessed.{access-as-said}
 use Rattle.model.proofs.Asked.{Free, Asks, plain, AsksHeard, away, taken, Last, judge-manager, judge-method, plainly}
 use Rattle.model.proofs.Figures.{method-is}
 use Rattle.model.proofs.Faults.{bytes-in}
-use Rattle.model.proofs.Meant.{is-short, signer-names, has-this, last-method, set-changes, revert-changes, activate-changes, start-of}
+use Rattle.model.proofs.Meant.{is-short, signer-names, has-this, last-method, set-changes, revert-changes, start-of}
+use Rattle.model.proofs.Heard.{manager-ind, heard-ind}
 
 -- ---- a payload: s is the request, and it starts at p
 module _ (k : Card) (e : Event) where
@@ -58,11 +58,11 @@ module _ (k : Card) (e : Event) where
   hear-manager : (tsn : Tsn) (hsn : Hsn) (s : List ℕ) (p : ℕ) (x : Payload) → payload_at s p ≡ x
       → ((F : List ℕ → ℕ → Type 0) → k.cells.session.live ≡ false → F s p → OnZeros k.cells.session e F)
       → heard-as (Z.hear_manager k.cells tsn hsn s x)
-  unfolding Z.hear_manager
-  hear-manager tsn hsn s p (P.Call object method params) q came =
+  hear-manager tsn hsn s p x q came =
+      manager-ind heard-as (λ _ _. away) k.cells tsn hsn s x λ object method params h.
       taken
       (judge-manager k.cells _ _ (free s) s object method _ λ eo em none host sp x who b.
-      let start = start-of k s p params host sp x who (q ∙ ap₂ (λ o m. P.Call o m params) eo em) b in (
+      let start = start-of k s p params host sp x who (q ∙ h ∙ ap₂ (λ o m. P.Call o m params) eo em) b in (
         λ w. came _ none (record { challenge = x; authority = who; start = start }),
         λ r short names.
             inl
@@ -78,11 +78,6 @@ module _ (k : Card) (e : Event) where
               bytes = bytes-in s x;
             })),
       ))
-  hear-manager tsn hsn s p P.EndSession q came = away
-  hear-manager tsn hsn s p P.Begin q came = away
-  hear-manager tsn hsn s p P.Commit q came = away
-  hear-manager tsn hsn s p P.Abandon q came = away
-  hear-manager tsn hsn s p P.Broken q came = away
 
   module _ (live : k.cells.session.live ≡ true) (s : List ℕ) (p : ℕ) (came : (F : List ℕ → ℕ → Type 0) → F s p → OnSession k.cells.session e F) where
     abbrev judged-as : Judged → Type 0
@@ -146,7 +141,7 @@ module _ (k : Card) (e : Event) where
             column = column;
             bytes = refl;
           }))
-          (λ em. activate-changes k e s k.cells.tables.active (calls _ (λ z. omega arith) em))
+          (λ em. whichever (Changes k e s) k.cells.tables.active _ _ tt (calls _ (λ z. omega arith) em))
           (λ em. revert-changes k e s _ (λ h. reverts O.SpAdmin h em) (λ h. reverts O.SpLocking h em))
           (λ there l. calls _ (λ z. omega arith) (left there l))
 
@@ -171,7 +166,7 @@ hear-packet k room s (Some p) q =
     let x = k.cells.session in
     cond_ind (heard-as k e) (Z.is_manager tsn hsn) _ _
     (λ m.
-    let zero = both (eqb tsn.0 0) (eqb hsn.0 0) m in
+    let zero = and_parts (eqb tsn.0 0) (eqb hsn.0 0) m in
     hear-manager k e tsn hsn _ start _ refl λ F none f. (
       none,
       record {
@@ -186,8 +181,8 @@ hear-packet k room s (Some p) q =
     )) λ _.
     cond_ind (heard-as k e) (Z.is_session x tsn hsn) _ _
     (λ m.
-    let live = both x.live _ m in
-    let same = both (eqb x.tsn.0 tsn.0) (eqb x.hsn.0 hsn.0) live.1 in
+    let live = and_parts x.live _ m in
+    let same = and_parts (eqb x.tsn.0 tsn.0) (eqb x.hsn.0 hsn.0) live.1 in
     taken
     (judge-session k e live.0 _ start
     (λ F f. (
@@ -212,8 +207,4 @@ hear-packet k room s (Some p) q =
 hear-packet k room s None q = away
 
 pub heard-asks : (k : Card) (room : ℕ) (s : List ℕ) → AsksHeard k.cells (Compares k (packet room s)) (ComesFrom k (packet room s)) (Z.heard k room s)
-unfolding Z.heard
-heard-asks k room s =
-    let F = heard-as k (packet room s) in
-    cond_ind F (not (sound k)) _ _ (λ _. away) λ _. cond_ind F (ltb room Z.max_bytes) _ _ (λ _. away) λ _.
-    cond_ind F (ltb Z.max_bytes (length s)) _ _ (λ _. away) λ _. hear-packet k room s _ refl
+heard-asks k room s = heard-ind (heard-as k (packet room s)) (λ _ _. away) k room s (λ _ _ _. hear-packet k room s _ refl)

@@ -72,15 +72,11 @@ made-decides n msid =
     map (λ p. (p.0.0, p.0.1, p.1)) (λ p. ((p.0, p.1), p.2))
     (dec-and (size_ok n) (eqb (length msid) R.pin_bytes) (dec-and _ _ (dec-le 262144 n) (dec-le n (2 ^ 40))) (dec-eq (length msid) R.pin_bytes))
 
-no-card : sound R.no_card ≡ false
-unfolding sound
-no-card = refl
-
 factory-made : FactoryMade
-unfolding made
+unfolding made sound
 factory-made = record {
   accepted = λ n msid m. rw (is_true _ (made-decides n msid) m) (refl, from-factory n msid);
-  refused = λ n msid m. rw (is_false _ (made-decides n msid) m) (refl, no-card);
+  refused = λ n msid m. rw (is_false _ (made-decides n msid) m) (refl, refl);
 }
 
 pub as-in-figures : AsInFigures

@@ -1,7 +1,7 @@
 -- What is known where a decision is taken: the one walk through all the checks. Laws over runs go by the decision, with this in hand.
 use Prim.Native.Nat.{ℕ, ◌+◌, ◌≤◌, ◌<◌}
 use mathlib.Core.Path.{◌≡◌, refl, sym}
-use mathlib.Core.Bool.{Bool, true, false, cond, true≢false}
+use mathlib.Core.Bool.{Bool, true, false, true≢false}
 use mathlib.Core.List.{List}
 use native.Mathlib.Omega.{arith}
 use Rattle.item.specs.declared.Slot.{Slot}
@@ -22,6 +22,7 @@ use Rattle.model.specs.Step.{Heard, turned, judged}
 use Rattle.model.specs.Literals as N
 use Rattle.model.specs.Literals.{Names, Knows}
 use Rattle.model.proofs.Figures.{object-ind, who-ind}
+use Rattle.model.proofs.Cases.{whichever}
 
 -- ---- what is known of each decision
 -- a PIN row of an authority that the SP knows: "SID in Admin; .. Admin1-4 and User1-8 in Locking"
@@ -76,14 +77,10 @@ pub data FairHeard (c : Cells) : Heard → Type 0 where
   taken : {tsn : Tsn} {hsn : Hsn} {s : List ℕ} {j : Judged} → Fair c j → FairHeard c (judged tsn hsn s j)
 
 -- the vault answers one or the other
-picked : (c : Cells) (b : Bool) (x y : Decision) → Legal c x → Legal c y → Legal c (cond b x y)
-picked c true x y p q = p
-picked c false x y p q = q
-
 pub fair-decided : (c : Cells) (v : Vault) (s : List ℕ) {j : Judged} → Fair c j → Legal c (decided v s j)
 unfolding decided
 fair-decided c v s (surely f) = f
-fair-decided c v s (either {r = r} {p = p} {n = n} f g) = picked c (matches v r (part s p n)) _ _ f g
+fair-decided c v s (either {r = r} {p = p} {n = n} f g) = whichever (Legal c) (matches v r (part s p n)) _ _ f g
 
 -- ---- how the checks are walked
 pub need-ind : (F : Judged → Type 0) (b : Bool) (d : Decision) (j : Judged) → F (Settled d) → (b ≡ true → F j) → F (J.need b d j)

@@ -1,5 +1,6 @@
 -- The laws that the proofs of `model` cite.
 pub mod Cases
+pub mod Heard
 pub mod Figures
 pub mod Soundness
 pub mod Legal

@@ -2,9 +2,9 @@
 use Rattle.std.specs.Prelude.{Option, Some, None}
 use Prim.Native.Nat.{ℕ}
 use mathlib.Core.Path.{◌≡◌, refl, sym, ◌∙◌}
-use mathlib.Core.Bool.{Bool, true, false, ◌||◌, cond, true≢false}
+use mathlib.Core.Bool.{Bool, true, false, ◌||◌}
 use mathlib.Core.List.{List, [], ◌∷◌}
-use mathlib.Core.Logic.{◌≢◌, ◌⊎◌, inl, inr}
+use mathlib.Core.Logic.{◌≢◌, ◌⊎◌, inl, inr, ⊎_elim}
 use native.Mathlib.Omega.{arith}
 use borrow.Author.Tests.{eqb-true}
 use lib.Dec.{leb, eqb}
@@ -28,27 +28,24 @@ use Rattle.model.specs.Step.{Event}
 use Rattle.model.specs.Words.{OneOf, Has}
 use Rattle.model.specs.Wants.{Over32}
 use Rattle.model.specs.Packets.{Start, Changes}
-use Rattle.model.proofs.Walked.{implies}
 use Rattle.model.proofs.Faults.{not_short}
 use Rattle.model.proofs.Asked.{Begun, Last}
+use Rattle.ranges.proofs.Decide.{dec-imp}
+use Rattle.model.proofs.Soundness.{dec-on}
+use Rattle.model.proofs.Cases.{never}
+use Rattle.std.proofs.lemmas.Bool.{or_cases, cases_Bool}
 
 -- ---- the parameters
 pub is-short : (x : Slot) → leb (J.count_of x) R.pin_bytes ≡ true → Over32 x → ⊥
 is-short x e = (not_short x).fails (rw e refl)
 
-anybody-not : {A : Type 0} (r : ℕ) → W.Anybody ≡ W.Row r → A
-anybody-not r e = let z : ◌≡◌ {A = ℕ} 0 1 = cc in absurd (omega arith)
-
-pub unknown-not : {A : Type 0} (r : ℕ) → W.Unknown ≡ W.Row r → A
-unknown-not r e = let z : ◌≡◌ {A = ℕ} 0 1 = cc in absurd (omega arith)
-
 pub signer-names : (s : List ℕ) (locking : Bool) (x : Slot) (r : ℕ) → J.signer s locking x ≡ W.Row r → U.who_in locking (uid_of s x) ≡ W.Row r
 unfolding J.signer
-signer-names s locking S.Absent r e = anybody-not r e
-signer-names s locking (S.Int v) r e = unknown-not r e
+signer-names s locking S.Absent r e = absurd cc
+signer-names s locking (S.Int v) r e = absurd cc
 signer-names s locking (S.Bytes p n) r e = e
-signer-names s locking (S.List p) r e = unknown-not r e
-signer-names s locking S.Named r e = unknown-not r e
+signer-names s locking (S.List p) r e = absurd cc
+signer-names s locking S.Named r e = absurd cc
 
 -- ---- the methods
 one_of_two : (a b m : ℕ) → OneOf m (a ∷ b ∷ []) → m ≢ a → m ≢ b → ⊥
@@ -137,22 +134,16 @@ module _ (k : Card) (e : Event) (s : List ℕ) where
   revert-changes O.MbrControl f g = tt
   revert-changes O.Nothing f g = tt
 
-  pub activate-changes : (on : Bool) → Changes k e s C.Activate → Changes k e s (cond on C.Nothing C.Activate)
-  activate-changes true f = tt
-  activate-changes false f = f
-
 -- ---- a StartSession
 which-sp : (sp : ℕ) → (eqb sp U.admin_sp || eqb sp U.locking_sp) ≡ true
     → ((eqb sp U.locking_sp ≡ false) × (sp ≡ U.admin_sp)) ⊎ ((eqb sp U.locking_sp ≡ true) × (sp ≡ U.locking_sp))
-which-sp sp = go (eqb sp U.admin_sp) (eqb sp U.locking_sp) refl refl
-  where
-    go : (a l : Bool) → eqb sp U.admin_sp ≡ a → eqb sp U.locking_sp ≡ l → (a || l) ≡ true → ((l ≡ false) × (sp ≡ U.admin_sp)) ⊎ ((l ≡ true) × (sp ≡ U.locking_sp))
-    go a true e f h = inr (refl, eqb-true _ _ f)
-    go true false e f h = inl (refl, eqb-true _ _ e)
-    go false false e f h = absurd (true≢false (sym h))
+which-sp sp h =
+    ⊎_elim (λ e. inr (e, eqb-true _ _ e))
+    (λ e. inl (e, eqb-true _ _ (⊎_elim (λ a. a) (never e) (or_cases (eqb sp U.admin_sp) _ h))))
+    (cases_Bool (eqb sp U.locking_sp))
 
 pub start-of : (k : Card) (s : List ℕ) (p params : ℕ) (host : Hsn) (sp : ℕ) (x who : Slot) → payload_at s p ≡ P.Call U.manager_uid U.start_session params
     → Begun k.cells (given None (start_of s) (values_at s 15 params)) host sp x who
     → Start k.cells.tables.active (eqb sp U.locking_sp) host x who s p
 start-of k s p params host sp x who call b =
-    record { params = params; sp = sp; call = call; asks = b.asked; names = which-sp sp b.known; on = implies (eqb sp U.locking_sp) _ b.on }
+    record { params = params; sp = sp; call = call; asks = b.asked; names = which-sp sp b.known; on = (dec-imp (eqb sp U.locking_sp) _ (dec-on _) (dec-on _)).holds b.on }

@@ -1,6 +1,6 @@
 -- The number that comes back is the lowest that applies; from a factory record number 1 never comes.
 use Rattle.std.specs.Prelude.{Option, Some, None}
-use Prim.Native.Nat.{ℕ, ◌+◌, ◌≤◌, ◌<◌}
+use Prim.Native.Nat.{ℕ, ◌+◌, ◌<◌}
 use mathlib.Core.Path.{◌≡◌, refl, sym, ◌∙◌, ap, subst}
 use mathlib.Core.Bool.{Bool, true, false, not, cond, true≢false}
 use mathlib.Core.List.{List}
@@ -21,9 +21,10 @@ use Rattle.model.specs.Apply.{settled_tables}
 use Rattle.model.specs.Step as Z
 use Rattle.model.specs.Step.{Heard, turned, Reply, ruling_number, reply_to, hear_manager, hear_packet, heard, command, power, reset, media}
 use Rattle.model.specs.Numbers.{First, Neither, NoCall, Numbered, Disabled, NumbersInOrder, NeverUnsound}
-use Rattle.model.proofs.Soundness.{dec-off, dec-eq}
+use Rattle.model.proofs.Soundness.{dec-off, dec-eq, dec-cond}
 use Rattle.model.proofs.Sent.{session-decides}
 use Rattle.model.proofs.Reached.{always-sound}
+use Rattle.model.proofs.Cases.{of_cond}
 
 -- ---- one test: x where it passes, y where not
 ask : {A : Type 0} (f : A → ℕ) (R : ℕ → Type 0) (i : ℕ) {P : Type 0} (b : Bool) (x y : A) → Decides b P → f x ≡ i → R (f y)
@@ -42,10 +43,6 @@ is_call P.Begin = false
 is_call P.Commit = false
 is_call P.Abandon = false
 is_call P.Broken = false
-
-abbrev is_broken : Option Packet → Bool
-is_broken (Some p) = false
-is_broken None = true
 
 module _ (k : Card) (s : List ℕ) (tsn hsn : ℕ) where
   -- no call: the payload's own kind is put for the one that is read
@@ -103,7 +100,7 @@ module _ (k : Card) (s : List ℕ) where
   unfolding reply_to hear_packet
   by-opened (Some p) =
       inr (
-        λ e. true≢false (sym (ap is_broken e)),
+        λ e. cc,
         λ tsn hsn start len e.
             subst (λ (x : Option Packet). Rest (number_of k (hear_packet k.cells s x)) tsn hsn start len) (sym e) (by-packet tsn hsn start len),
       )
@@ -120,21 +117,20 @@ numbered k room s =
     (by-opened k s (opened_of s))))
 
 -- ---- resets
-by-live : (l : Bool) (w t : Tables) → Decides (not (cond l w t).resettable) ((l ≡ true → w.resettable ≡ false) × (l ≡ false → t.resettable ≡ false))
-by-live true w t = map (λ e. (λ _. e, λ f. absurd (true≢false f))) (λ p. p.0 refl) (dec-off w.resettable)
-by-live false w t = map (λ e. (λ f. absurd (true≢false (sym f)), λ _. e)) (λ p. p.1 refl) (dec-off t.resettable)
-
-disabled-decides : (k : Card) → Decides (not (settled_tables k.cells).resettable) (Disabled k)
+pub disabled-decides : (k : Card) → Decides (not (settled_tables k.cells).resettable) (Disabled k)
 disabled-decides k =
-    map (λ p. record { within = p.0; outside = p.1 }) (λ d. (d.within, d.outside)) (by-live k.cells.undo.live k.cells.undo.was k.cells.tables)
+    let u = k.cells.undo in
+    let d : Decides (not (settled_tables k.cells).resettable) ((u.live ≡ true → u.was.resettable ≡ false) × (u.live ≡ false → k.cells.tables.resettable ≡ false))
+    = rw (of_cond (λ (t : Tables). not t.resettable) u.live u.was k.cells.tables) (dec-cond u.live _ _ (dec-off _) (dec-off _)) in
+    map (λ p. record { within = p.0; outside = p.1 }) (λ x. (x.within, x.outside)) d
 
-by-sound : (b : Bool) (x y : Reply) → x.number ≡ 0 → y.number ≡ 1 → First (cond b x y).number 1 (b ≡ false) ((cond b x y).number ≡ 0)
-by-sound true x y p q = inr (true≢false, p)
-by-sound false x y p q = inl (refl, q)
+by-sound : {A : Type 0} (f : A → ℕ) (b : Bool) (x y : A) → f x ≡ 0 → f y ≡ 1 → First (f (cond b x y)) 1 (b ≡ false) (f (cond b x y) ≡ 0)
+by-sound f true x y p q = inr (true≢false, p)
+by-sound f false x y p q = inl (refl, q)
 
 powered : (k : Card) → First (power k).number 1 (sound k ≡ false) ((power k).number ≡ 0)
 unfolding power
-powered k = by-sound (sound k) _ _ refl refl
+powered k = by-sound (λ (r : Reply). r.number) (sound k) _ _ refl refl
 
 was-reset : (k : Card) → First (reset k).number 1 (sound k ≡ false) (First (reset k).number 7 (Disabled k) ((reset k).number ≡ 0))
 unfolding reset
@@ -145,11 +141,7 @@ was-reset k =
 questioned : (k : Card) (write : Bool) (start count : ℕ)
     → First (ruling_number (media k write start count)) 1 (sound k ≡ false) (ruling_number (media k write start count) ≡ 0)
 unfolding media ruling_number
-questioned k write start count = go (sound k) refl
-  where
-    go : (b : Bool) → sound k ≡ b → First (ruling_number (media k write start count)) 1 (sound k ≡ false) (ruling_number (media k write start count) ≡ 0)
-    go true e = inr (λ f. true≢false (sym e ∙ f), rw e refl)
-    go false e = inl (e, rw e refl)
+questioned k write start count = by-sound ruling_number (sound k) _ _ refl refl
 
 pub numbers-in-order : NumbersInOrder
 numbers-in-order = record { packets = numbered; powers = powered; resets = was-reset; media = questioned }
@@ -159,23 +151,20 @@ past : {n i : ℕ} {P R : Type 0} → (P → i ≢ 1) → First n i P R → (R �
 past ne (inl p) f z = ne p.0 (sym p.1 ∙ z)
 past ne (inr q) f z = f q.1 z
 
-one-is-not : {i : ℕ} → 2 ≤ i → i ≢ 1
-one-is-not l e = omega arith
-
 opened-not-one : (k : Card) (s : List ℕ) (n : ℕ) (x : Option Packet) → Opening k s x n → n ≢ 1
 opened-not-one k s n x (inl p) = λ z. omega (arith, p.1)
 opened-not-one k s n (Some p) (inr q) =
-    past (λ _. one-is-not (omega arith)) (q.1 p.tsn.0 p.hsn.0 p.start p.len refl) λ r.
-    past (λ _. one-is-not (omega arith)) r λ e z. omega arith
+    past (λ _ z. omega arith) (q.1 p.tsn.0 p.hsn.0 p.start p.len refl) λ r.
+    past (λ _ z. omega arith) r λ e z. omega arith
 opened-not-one k s n None (inr q) = absurd (q.0 refl)
 
 not-one : (k : Card) (room : ℕ) (s : List ℕ) (n : ℕ) → sound k ≡ true → Numbered k room s n → n ≢ 1
 not-one k room s n t h =
     past (λ e _. true≢false (sym t ∙ e)) h λ h.
-    past (λ _. one-is-not (omega arith)) h λ h.
-    past (λ _. one-is-not (omega arith)) h (opened-not-one k s n (opened_of s))
+    past (λ _ z. omega arith) h λ h.
+    past (λ _ z. omega arith) h (opened-not-one k s n (opened_of s))
 
-sound-power : (k : Card) → sound k ≡ true → (power k).number ≡ 0
+pub sound-power : (k : Card) → sound k ≡ true → (power k).number ≡ 0
 unfolding power
 sound-power k t = rw t refl
 

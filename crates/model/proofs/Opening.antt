@@ -1,35 +1,32 @@
 -- A session is opened by a StartSession, to its SP and for its host.
 use Prim.Native.Nat.{ℕ}
-use mathlib.Core.Path.{◌≡◌, refl, sym, ◌∙◌, subst}
-use mathlib.Core.Bool.{true, false, not, true≢false}
+use mathlib.Core.Path.{◌≡◌, refl, sym, subst}
+use mathlib.Core.Bool.{true, false}
 use mathlib.Core.List.{List}
 use Rattle.model.specs.Types.{Session, Card, Change, Decision}
 use Rattle.model.specs.declared.Change.TheVariants as C
 use Rattle.model.specs.declared.Decision.TheVariants as D
 use Rattle.model.specs.Record as R
-use Rattle.model.specs.Sound.{sound}
 use Rattle.model.specs.Apply as A
 use Rattle.model.specs.Step as Z
 use Rattle.model.specs.Step.{Event, packet, powered, was_reset, asked, next}
 use Rattle.model.specs.Seen.{Taken, nothing, took, taken}
 use Rattle.model.specs.Packets.{OnZeros, Opens, ComesFrom}
-use Rattle.model.proofs.Cases.{cond_ind}
+use Rattle.model.proofs.Cases.{never}
 use Rattle.model.proofs.Moves.{rests, moves}
 use Rattle.model.proofs.Came.{comes}
+use Rattle.model.proofs.Heard.{power-ind, reset-ind}
 
 module _ (k : Card) (e : Event) (none : k.cells.session.live ≡ false) where
   -- what is to be shown of the session after the event
   abbrev Opened : Session → Type 0
   Opened x = x.live ≡ true → OnZeros k.cells.session e (Opens k.cells.tables.active x.locking x.hsn)
 
-  shut : (x : Session) → x.live ≡ false → Opened x
-  shut x h l = absurd (true≢false (sym l ∙ h))
-
   still : Opened k.cells.session
-  still = shut k.cells.session none
+  still = never none
 
   none_left : Opened R.no_session
-  none_left = shut R.no_session refl
+  none_left = never refl
 
   by-change : (x : Change) → Opened (A.change k.cells x).session
   unfolding A.change
@@ -74,12 +71,8 @@ by-taken k room p none (took s d) q =
     subst (After k (packet room p) none) (sym (moves k (packet room p) s d q)) (by-decision k (packet room p) none s d (comes k (packet room p) s d q))
 
 pub opened : (k : Card) (e : Event) (none : k.cells.session.live ≡ false) → After k e none (next k e)
-unfolding next Z.power Z.reset
+unfolding next
 opened k (packet room p) none = by-taken k room p none (taken k (packet room p)) refl
-opened k powered none =
-    cond_ind (λ (x : Z.Reply). After k powered none x.card) (sound k) _ _ (λ _. none_left k powered none) (λ _. still k powered none)
-opened k was_reset none =
-    cond_ind (λ (x : Z.Reply). After k was_reset none x.card) (not (sound k)) _ _ (λ _. still k was_reset none) λ _.
-    cond_ind (λ (x : Z.Reply). After k was_reset none x.card) (not (A.settled_tables k.cells).resettable) _ _
-    (λ _. still k was_reset none) (λ _. none_left k was_reset none)
+opened k powered none = power-ind (λ (x : Z.Reply). After k powered none x.card) k (λ _. still k powered none) (none_left k powered none)
+opened k was_reset none = reset-ind (λ (x : Z.Reply). After k was_reset none x.card) k (λ _. still k was_reset none) (none_left k was_reset none)
 opened k (asked write start count) none = still k (asked write start count) none

@@ -2,16 +2,15 @@
 use Rattle.std.specs.Prelude.{Option, Some, None, Result, Ok, Err}
 use Prim.Native.Nat.{ℕ, ◌≤◌, ◌<◌}
 use mathlib.Core.Path.{◌≡◌, refl, sym, ◌∙◌, ap, subst}
-use mathlib.Core.Bool.{Bool, true, false, not, ◌&&◌}
+use mathlib.Core.Bool.{true, false, not, ◌&&◌}
 use mathlib.Core.List.{List}
 use mathlib.Core.Logic.{inl, inr, ⊎_elim}
-use native.Mathlib.Nat.{eq-or-lt_of_le}
 use native.Mathlib.Omega.{arith}
 use borrow.Author.Tests.{not-false}
 use lib.Dec.{leb, ltb}
 use lib.ListN.{length}
 use Rattle.ranges.specs.Decides.{Decides}
-use Rattle.ranges.proofs.Decide.{le-or-lt, is_false, map, dec-not, dec-lt}
+use Rattle.ranges.proofs.Decide.{is_false, map, dec-not, dec-lt}
 use Rattle.item.specs.declared.Slot.{Slot}
 use Rattle.item.specs.declared.Slot.TheVariants as S
 use Rattle.value.specs.Value.{Values}
@@ -20,7 +19,7 @@ use Rattle.params.specs.declared.Columns.{Columns}
 use Rattle.params.specs.declared.Offence.{Offence}
 use Rattle.params.specs.declared.Block.{Block}
 use Rattle.params.specs.Names.{given, nothing}
-use Rattle.params.specs.Columns.{column_at, free}
+use Rattle.params.specs.Columns.{column_at}
 use Rattle.model.specs.Types.{Cells, Card, Object, Who, Status, Change, Decision, Judged}
 use Rattle.model.specs.declared.Object.TheVariants as O
 use Rattle.model.specs.declared.Who.TheVariants as W
@@ -40,7 +39,7 @@ use Rattle.model.specs.Wants as N
 use Rattle.model.specs.Wants.{When, Ruled}
 use Rattle.model.specs.Calls.{Ways, got_by, put_by}
 use Rattle.model.proofs.Cases.{cond_ind}
-use Rattle.model.proofs.Soundness.{dec-on, dec-off}
+use Rattle.model.proofs.Soundness.{dec-on, dec-off, stable}
 use Rattle.model.proofs.Faults as F
 use Rattle.model.proofs.Faults.{look}
 use Rattle.model.proofs.Standing.{not-values}
@@ -120,10 +119,7 @@ module _ (k : Card) (s : List ℕ) where
         (λ f. inr (h, idle (inl (⊎_elim inl (λ q. inr (inl q)) f, invalid)))) λ g.
         look (λ j. Get (Some b) (of j)) (leb x y) _ _ (F.not-le x y)
         (λ f. inr (h, idle (inl (inr (inr f), invalid)))) λ u.
-        inr (h, idle (inr (⊎_elim (λ q. g (inl q)) (⊎_elim (λ q. g (inr q)) u), idle (idle (idle (idle (idle (within y n (λ q. g (inr q)), refl)))))))))
-      where
-        within : (y n : ℕ) → (n < y → ⊥) → y ≤ n
-        within y n f = ⊎_elim (λ p. p) (λ q. absurd (f q)) (le-or-lt y n)
+        inr (h, idle (inr (⊎_elim (λ q. g (inl q)) (⊎_elim (λ q. g (inr q)) u), idle (idle (idle (idle (idle (let w : n < y → ⊥ = λ q. g (inr q) in omega arith, refl)))))))))
 
     -- ---- Set
     abbrev pub Set : Result Columns Offence → Decision → Type 0
@@ -137,11 +133,7 @@ module _ (k : Card) (s : List ℕ) where
         (⊎_elim (λ (e : i ≡ 8). omega arith) (⊎_elim (λ (e : i ≡ 9). omega arith) absurd))))) m.1
 
     spared : (t : Columns) → (N.SomeGiven t (λ i. MaySet k.cells.session o i → ⊥) → ⊥) → o ≡ O.Range 0 → (i : ℕ) → i < 5 → column_at t i ≡ S.Absent
-    spared t h e i l = go (free (column_at t i)) (F.free-decides (column_at t i))
-      where
-        go : (b : Bool) → Decides b (column_at t i ≡ S.Absent) → column_at t i ≡ S.Absent
-        go true d = d.holds refl
-        go false d = absurd (h (i, omega arith, d.fails refl, λ m. not-global i l (rw e at m)))
+    spared t h e i l = stable _ (F.free-decides (column_at t i)) (λ n. h (i, omega arith, n, λ m. not-global i l (rw e at m)))
 
     pub put : (x : Result Columns Offence) → Decides (in_table k.cells.session o 0x17) (Has k.cells.session o 0x17)
         → ((i : ℕ) → i < 20 → Decides (allowed_column k.cells.session o 0x17 i) (MaySet k.cells.session o i))
@@ -175,13 +167,9 @@ module _ (k : Card) (s : List ℕ) where
     bare m vs May x pair may =
         look (λ j. Bare m vs May x (of j)) _ _ _ (dec-not _ pair) (λ n. inl (n, unauthorised)) λ h.
         look (λ j. Bare m vs May x (of j)) _ _ _ (dec-off (given false nothing vs)) (λ f. inr (h, idle (inl (f, invalid)))) λ g.
-        look (λ j. Bare m vs May x (of j)) _ _ _ (dec-not _ (allowing _ pair h)) (λ f. inr (h, idle (inr (g, inl (f, unauthorised))))) λ w.
+        look (λ j. Bare m vs May x (of j)) _ _ _ (dec-not _ (may (stable _ pair h))) (λ f. inr (h, idle (inr (g, inl (f, unauthorised))))) λ w.
         look (λ j. Bare m vs May x (of j)) _ _ _ (F.not-not _ (dec-on k.cells.undo.live)) (λ f. inr (h, idle (inr (g, inr (w, idle (inl (f, failed))))))) λ z.
         inr (h, idle (inr (g, inr (w, idle (inr (z, idle (idle refl)))))))
-      where
-        allowing : (b : Bool) → Decides b (Has k.cells.session o m) → ((Has k.cells.session o m → ⊥) → ⊥) → Decides (allowed k.cells.session o m) May
-        allowing true d h = may (d.holds refl)
-        allowing false d h = absurd (h (d.fails refl))
 
   -- ---- PINs: "class or disabled; Tries = 5; PIN differs"
   module _ (e : J.Ends) (x : Slot) (B X Y Z Ri : Decision → Type 0) (Wr : Decision → Type 0) where
@@ -192,11 +180,8 @@ module _ (k : Card) (s : List ℕ) where
 
     full : (r : ℕ) → R.tries_at k.cells r ≤ 5 → Decides (not (ltb (R.tries_at k.cells r) 5)) (N.Full k.cells (W.Row r))
     full r m =
-        map (at_five (R.tries_at k.cells r) m) (λ (z : R.tries_at k.cells r ≡ 5) (l : R.tries_at k.cells r < 5). omega arith)
+        map (λ (h : R.tries_at k.cells r < 5 → ⊥). omega arith) (λ (z : R.tries_at k.cells r ≡ 5) (l : R.tries_at k.cells r < 5). omega arith)
         (dec-not _ (dec-lt (R.tries_at k.cells r) 5))
-      where
-        at_five : (n : ℕ) → n ≤ 5 → (n < 5 → ⊥) → n ≡ 5
-        at_five n m h = ⊎_elim (λ (e : n ≡ 5). e) (λ l. absurd (h l)) (eq-or-lt_of_le m)
 
     pub compared : SoundRecord k → (w : Who) → (N.Unheard w → ⊥) → B e.barred → Z e.full
         → ((r : ℕ) → w ≡ W.Row r → R.tries_at k.cells r < 5 → Wr (e.wrong r)) → Ri (e.right w)
@@ -213,4 +198,4 @@ module _ (k : Card) (s : List ℕ) where
         (λ q. inr (h, idle (idle (inr (g, inl (λ n. (F.same-decides _ _).fails q (n ∙ sym (F.bytes-in s x)), wr r refl (below r g)))))))
       where
         below : (r : ℕ) → (N.Full k.cells (W.Row r) → ⊥) → R.tries_at k.cells r < 5
-        below r g = ⊎_elim (λ q. absurd (g q)) (λ l. l) (eq-or-lt_of_le (sound.tries r))
+        below r g = omega (arith, g, sound.tries r)

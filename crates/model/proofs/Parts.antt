@@ -1,14 +1,14 @@
 -- The parts of a record stay sound: tables, sessions and PINs, as each legal change leaves them.
+use Rattle.std.proofs.lemmas.Bool.{and_parts}
 use Rattle.std.specs.Prelude.{Option, Some, None, unwrap_or, is_none}
 use Prim.Native.Nat.{ℕ, zero, suc, ◌-◌, ◌≤◌, ◌<◌}
-use mathlib.Core.Path.{◌≡◌, refl, sym, ◌∙◌}
+use mathlib.Core.Path.{◌≡◌, refl, sym, ◌∙◌, ap}
 use mathlib.Core.Bool.{Bool, true, false, true≢false}
 use mathlib.Core.List.{List, [], ◌∷◌, ◌++◌}
-use native.Mathlib.Nat.{le_of_suc-le-suc, not-suc-le-zero}
 use native.Mathlib.Omega.{arith}
 use borrow.Author.Tests.{lt-ltb}
 use lib.ListN.{length, get_or, set, drop, replicate, length-set, length-append, length-replicate, length-take, length-map, get_or-eq_default, get_or-replicate}
-use lib.Seq.{get_or-set_other}
+use lib.Seq.{get_or-set_other, get_or-append_right}
 use lib.Dec.{ltb}
 use Rattle.ranges.specs.Decides.{imp}
 use Rattle.ranges.specs.Row.{row_count, no_row, row_at, Holds}
@@ -18,14 +18,14 @@ use Rattle.ranges.specs.Reset.{locked_row, reset_rows}
 use Rattle.ranges.specs.declared.Edit.{Edit}
 use Rattle.ranges.proofs.Fitted.{fit-decides}
 use Rattle.ranges.proofs.Mapped.{at_map, reset-fits}
-use Rattle.model.specs.Types.{Tsn, Hsn, Row, Mbr, Tables, Session, Secret, Who}
+use Rattle.model.specs.Types.{Tsn, Hsn, Row, Mbr, Tables, Session, Secret, Who, PinRow}
 use Rattle.model.specs.Record as R
 use Rattle.model.specs.Vault.{part}
 use Rattle.model.specs.Apply as A
 use Rattle.model.specs.Laws.{SoundTables, SoundSession, SoundSecret, SoundSecrets}
 use Rattle.model.proofs.Legal as L
-use Rattle.model.proofs.Cases.{both}
 use Rattle.model.proofs.Legal.{KnownWho}
+use Rattle.model.proofs.Cases.{never}
 
 -- what holds of each cell and of what is put at i holds of each cell after it
 pub stored : {A : Type 0} (P : ℕ → A → Type 0) (l : List A) (d : A) (i : ℕ) (a : A) → P i a → ((k : ℕ) → P k (get_or l k d))
@@ -35,6 +35,17 @@ stored P (x ∷ xs) d zero a h f zero = h
 stored P (x ∷ xs) d zero a h f (suc k) = f (suc k)
 stored P (x ∷ xs) d (suc i) a h f zero = f zero
 stored P (x ∷ xs) d (suc i) a h f (suc k) = stored (λ m. P (suc m)) xs d i a h (λ m. f (suc m)) k
+
+pub all_same : {A : Type 0} (F : A → Type 0) (n : ℕ) (a d : A) → F a → F d → (i : ℕ) → F (get_or (replicate n a) i d)
+all_same F zero a d f g i = g
+all_same F (suc n) a d f g zero = f
+all_same F (suc n) a d f g (suc i) = all_same F n a d f g i
+
+pub same-all : {A : Type 0} (n i : ℕ) (x : A) → get_or (replicate n x) i x ≡ x
+same-all n i x = all_same (λ y. y ≡ x) n x x refl refl i
+
+pub no-tries : (r : ℕ) → (R.pin_row_at R.no_tries r).tries ≡ 0
+no-tries r = ap (λ (x : PinRow). x.tries) (same-all {A = PinRow} R.pin_count r (record { tries = 0 }))
 
 -- ---- tables
 abbrev Global : Row → Type 0
@@ -47,15 +58,15 @@ kept-number x (Some v) h = absurd (true≢false (sym h))
 kept-global : (r : Row) (e : Edit) → keeps_span e ≡ true → Global r → Global (edited_row r e)
 unfolding edited_row
 kept-global r e h g =
-    let p = both (is_none e.start) (is_none e.length) h in
+    let p = and_parts (is_none e.start) (is_none e.length) h in
     (kept-number r.start e.start p.0 ∙ g.0, kept-number r.length e.length p.1 ∙ g.1)
 
 module _ (n : ℕ) (t : Tables) (h : SoundTables n t) where
   pub put-range : (k : ℕ) (e : Edit) → set_ok t.rows k e n ≡ true → SoundTables n (R.with_rows t (edited t.rows k e))
   unfolding set_ok
   put-range k e ok =
-      let p = both (ltb k (length t.rows)) _ ok in
-      let q = both (imp (ltb k 1) (keeps_span e)) (fit_b (edited t.rows k e) n) p.1 in
+      let p = and_parts (ltb k (length t.rows)) _ ok in
+      let q = and_parts (imp (ltb k 1) (keeps_span e)) (fit_b (edited t.rows k e) n) p.1 in
       let spared : k ≡ 0 → keeps_span e ≡ true = λ (z : k ≡ 0). rw (lt-ltb k 1 (omega arith)) at q.0 in
       record {
         rows = length-set t.rows k _ ∙ h.rows;
@@ -102,27 +113,21 @@ relocked-sound n t h = record {
   fit = reset-fits t.active t.rows n h.fit;
 }
 
-blank-row : (i : ℕ) → i < row_count → row_at (replicate row_count no_row) i ≡ no_row
-blank-row i l = get_or-replicate row_count i no_row no_row l
-
 no-holds : (s : ℕ) → Holds no_row s → ⊥
 no-holds s h = omega arith
 
 blank-fit : (n : ℕ) → Fit (replicate row_count no_row) n
 blank-fit n = record {
-  ends = λ i o l. rw (blank-row i l) (omega arith);
-  apart = λ i j o m l s x y. no-holds s (rw (blank-row i l) at x);
+  ends = λ i o l. rw (same-all row_count i no_row) (omega arith);
+  apart = λ i j o m l s x y. no-holds s (rw (same-all row_count i no_row) at x);
 }
 
 pub restored-sound : (n : ℕ) (t : Tables) → SoundTables n (R.restored_locking t)
 restored-sound n t = record { rows = refl; authorities = refl; sid = refl; global = (refl, refl); fit = blank-fit n }
 
 -- ---- sessions
-none-live : {P : Type 0} → false ≡ true → P
-none-live e = absurd (true≢false (sym e))
-
 pub no-session : (t : Tables) → SoundSession t R.no_session
-no-session t = record { many = refl; tsn = none-live; active = none-live; known_admin = none-live; known_locking = none-live; none = λ _. refl }
+no-session t = record { many = refl; tsn = never refl; active = never refl; known_admin = never refl; known_locking = never refl; none = λ _. refl }
 
 -- other tables, active where a session to the Locking SP asks for it
 pub re-tabled : (t u : Tables) (s : Session) → (s.locking ≡ true → t.active ≡ true → u.active ≡ true) → SoundSession t s → SoundSession u s
@@ -163,7 +168,7 @@ fresh-session t locking tsn hsn l f = record {
 }
   where
     nobody : {P : Type 0} (r : ℕ) → r < R.pin_count → get_or (replicate R.pin_count false) r false ≡ true → P
-    nobody r m h = none-live (sym (get_or-replicate R.pin_count r false false m) ∙ h)
+    nobody r m h = never (get_or-replicate R.pin_count r false false m) h
 
 -- ---- PINs
 pub put-secret : (l : List Secret) (r : ℕ) (x : Secret) → SoundSecret x → SoundSecrets l → SoundSecrets (set l r x)
@@ -172,18 +177,8 @@ put-secret l r x g h = record {
   each = stored (λ i y. i < R.pin_count → SoundSecret y) l _ r x (λ _. g) h.each;
 }
 
-pub all_same : {A : Type 0} (F : A → Type 0) (n : ℕ) (a d : A) → F a → F d → (i : ℕ) → F (get_or (replicate n a) i d)
-all_same F zero a d f g i = g
-all_same F (suc n) a d f g zero = f
-all_same F (suc n) a d f g (suc i) = all_same F n a d f g i
-
-pub same-all : {A : Type 0} (n i : ℕ) (x : A) → get_or (replicate n x) i x ≡ x
-same-all n i x = all_same (λ y. y ≡ x) n x x refl refl i
-
 zeros-after : (p : List ℕ) (n i : ℕ) → length p ≤ i → get_or (p ++ replicate n 0) i 0 ≡ 0
-zeros-after [] n i l = same-all n i 0
-zeros-after (x ∷ p) n zero l = absurd (not-suc-le-zero l)
-zeros-after (x ∷ p) n (suc i) l = zeros-after p n i (le_of_suc-le-suc l)
+zeros-after p n i l = get_or-append_right p (replicate n 0) i 0 l ∙ same-all n (i - length p) 0
 
 pub secret-of : (p : List ℕ) → length p ≤ R.pin_bytes → SoundSecret (R.secret_of p)
 secret-of p l = record {

@@ -1,9 +1,9 @@
 -- Every record that a run reaches is sound: each legal decision and each reset keeps it so.
 use Prim.Native.Nat.{ℕ, ◌+◌, ◌≤◌, ◌<◌}
 use mathlib.Core.Path.{◌≡◌, refl, sym, ◌∙◌, ap, subst}
-use mathlib.Core.Bool.{Bool, true, false, not, cond, true≢false}
+use mathlib.Core.Bool.{Bool, true, false, cond, true≢false}
 use mathlib.Core.List.{List, [], ◌∷◌}
-use mathlib.Core.Logic.{◌≢◌, ⊎_elim}
+use mathlib.Core.Logic.{⊎_elim}
 use native.Mathlib.Omega.{arith}
 use lib.ListN.{set, length-set}
 use borrow.Author.Tests.{le-leb, lt-ltb}
@@ -11,11 +11,9 @@ use lib.Dec.{ltb}
 use Rattle.ranges.proofs.Decide.{is_true, le-or-lt}
 use Rattle.ranges.proofs.Shares.{shares-total, share-range}
 use Rattle.model.specs.Types.{Tsn, Hsn, Tables, PinRow, Session, Cells, Secret, Card, Who, Change, Decision}
-use Rattle.model.specs.declared.Who.TheVariants as W
 use Rattle.model.specs.declared.Change.TheVariants as C
 use Rattle.model.specs.declared.Decision.TheVariants as D
 use Rattle.model.specs.Record as R
-use Rattle.model.specs.Sound.{sound}
 use Rattle.model.specs.Vault as Y
 use Rattle.model.specs.Apply as A
 use Rattle.model.specs.Step as Z
@@ -23,17 +21,16 @@ use Rattle.model.specs.Step.{Heard, Event, packet, powered, was_reset, asked, af
 use Rattle.model.specs.Laws.{SoundTables, SoundSession, SoundSecrets, SoundRecord, Made, AlwaysSound, ApartAndShared, RangesApart}
 use Rattle.model.proofs.Soundness.{Tries, sound-decides}
 use Rattle.model.proofs.Legal as L
-use Rattle.model.proofs.Cases.{cond_ind}
+use Rattle.model.proofs.Cases.{cond_ind, never, whichever}
 use Rattle.model.proofs.Legal.{KnownWho, LegalChange, Legal, FairHeard, away, taken, fair-decided}
 use Rattle.model.proofs.Walked.{heard-fair}
 use Rattle.model.proofs.Parts
+use Rattle.model.proofs.Moves.{cleared-tries}
+use Rattle.model.proofs.Heard.{power-ind, reset-ind}
 
 -- ---- the record with one part put anew
 abbrev celled : Card → Cells → Card
 celled k c = record { cells = c; vault = k.vault }
-
-pub never : {P : Type 0} {b : Bool} → b ≡ false → b ≡ true → P
-never e f = absurd (true≢false (sym f ∙ e))
 
 module _ (k : Card) (h : SoundRecord k) where
   -- the rollback copies stay
@@ -134,7 +131,7 @@ module _ (k : Card) (h : SoundRecord k) where
 
 -- ---- Tries that are 0
 no-tries : Tries R.no_tries
-no-tries = (refl, λ r. rw (Parts.same-all {A = PinRow} R.pin_count r (record { tries = 0 })) (omega arith))
+no-tries = (refl, λ r. rw (Parts.no-tries r) (omega arith))
 
 locking-tries : (k : Card) → SoundRecord k → Tries (A.locking_tries k.cells.pins)
 locking-tries k h = (refl, Parts.stored (λ _ x. x.tries ≤ 5) R.no_tries _ 0 _ (h.tries 0) no-tries.1)
@@ -177,10 +174,7 @@ started : (k : Card) → SoundRecord k → (locking : Bool) (hsn : Hsn) {w : Who
 started k h locking hsn none on w =
     with-next _
     (with-session k h _ (Parts.proved-session _ _ refl w (Parts.fresh-session _ locking k.cells.next hsn h.next on)) (λ l. never none (h.transaction l)))
-    _ (later k.cells.next.0)
-  where
-    later : (x : ℕ) → 1 ≤ cond (ltb x 0xffffffff) (x + 1) 1
-    later x = cond_ind (λ y. 1 ≤ y) (ltb x 0xffffffff) _ _ (λ _. omega arith) (λ _. omega arith)
+    _ (whichever (λ y. 1 ≤ y) (ltb k.cells.next.0 0xffffffff) _ _ (omega arith) (omega arith))
 
 by-start : (k : Card) → SoundRecord k → (locking : Bool) (hsn : Hsn) {w : Who} → k.cells.session.live ≡ false
     → (locking ≡ true → k.cells.tables.active ≡ true) → KnownWho locking w → SoundRecord (celled k (A.apply k.cells (D.Started locking hsn w)))
@@ -232,12 +226,10 @@ by-reply k away h = h
 by-reply k (taken {s = s} f) h = by-decision k s _ (fair-decided k.cells k.vault s f) h
 
 pub next-sound : (k : Card) (e : Event) → SoundRecord k → SoundRecord (next k e)
-unfolding next Z.power Z.reset
+unfolding next
 next-sound k (packet room s) h = by-reply k (heard-fair k room s) h
-next-sound k powered h = cond_ind (λ (r : Z.Reply). SoundRecord r.card) (sound k) _ _ (λ _. power-sound k h) (λ _. h)
-next-sound k was_reset h =
-    cond_ind (λ (r : Z.Reply). SoundRecord r.card) (not (sound k)) _ _ (λ _. h) λ _.
-    cond_ind (λ (r : Z.Reply). SoundRecord r.card) (not (A.settled_tables k.cells).resettable) _ _ (λ _. h) (λ _. reset-sound k h)
+next-sound k powered h = power-ind (λ (r : Z.Reply). SoundRecord r.card) k (λ _. h) (power-sound k h)
+next-sound k was_reset h = reset-ind (λ (r : Z.Reply). SoundRecord r.card) k (λ _. h) (reset-sound k h)
 next-sound k (asked write start count) h = h
 
 pub run_sound : (k : Card) (es : List Event) → SoundRecord k → SoundRecord (run k es)
@@ -272,13 +264,6 @@ always-sound = record {
 abbrev made : Cells → ℕ × List ℕ
 made c = (c.n, c.msid)
 
-cleared-made : (c : Cells) (w : Who) → made (A.cleared c w) ≡ made c
-unfolding A.cleared
-cleared-made c W.Unknown = refl
-cleared-made c W.Anybody = refl
-cleared-made c W.Class = refl
-cleared-made c (W.Row r) = refl
-
 change-made : (c : Cells) (x : Change) → made (A.change c x) ≡ made c
 unfolding A.change
 change-made c C.Nothing = refl
@@ -297,10 +282,10 @@ unfolding A.apply
 apply-made c (D.Refuse e) = refl
 apply-made c (D.NotStarted e) = refl
 apply-made c (D.Missed r) = refl
-apply-made c (D.Started locking hsn w) = cleared-made c w
+apply-made c (D.Started locking hsn w) = ap made (cleared-tries c w)
 apply-made c D.Denied = refl
 apply-made c (D.Mistaken r) = refl
-apply-made c (D.Proved w) = cleared-made c w
+apply-made c (D.Proved w) = ap made (cleared-tries c w)
 apply-made c (D.Told o first last) = refl
 apply-made c (D.Done x) = change-made c x
 apply-made c D.Began = refl
@@ -317,12 +302,10 @@ reply-made k (Z.turned n) = refl
 reply-made k (Z.judged tsn hsn s j) = apply-made k.cells (Y.decided k.vault s j)
 
 pub next-made : (k : Card) (e : Event) → made (next k e).cells ≡ made k.cells
-unfolding next Z.power Z.reset
+unfolding next
 next-made k (packet room s) = reply-made k (Z.heard k room s)
-next-made k powered = cond_ind (λ (r : Z.Reply). made r.card.cells ≡ made k.cells) (sound k) _ _ (λ _. refl) (λ _. refl)
-next-made k was_reset =
-    cond_ind (λ (r : Z.Reply). made r.card.cells ≡ made k.cells) (not (sound k)) _ _ (λ _. refl) λ _.
-    cond_ind (λ (r : Z.Reply). made r.card.cells ≡ made k.cells) (not (A.settled_tables k.cells).resettable) _ _ (λ _. refl) (λ _. refl)
+next-made k powered = power-ind (λ (r : Z.Reply). made r.card.cells ≡ made k.cells) k (λ _. refl) refl
+next-made k was_reset = reset-ind (λ (r : Z.Reply). made r.card.cells ≡ made k.cells) k (λ _. refl) refl
 next-made k (asked write start count) = refl
 
 run-made : (k : Card) (es : List Event) → made (run k es).cells ≡ made k.cells
@@ -336,15 +319,12 @@ apart-and-shared n t h = record {
   ends = h.fit.ends;
   apart = λ i j s oi li oj lj ne x y.
       ⊎_elim
-      (λ le. h.fit.apart j i oi (strictly i j le ne) lj s y x)
+      (λ le. h.fit.apart j i oi (omega (arith, ne)) lj s y x)
       (λ lt. h.fit.apart i j oj lt li s x y)
       (le-or-lt i j);
   each = share-range t.rows n h.fit;
   shares = shares-total t.rows (omega (arith, h.rows)) n;
 }
-  where
-    strictly : (i j : ℕ) → i ≤ j → i ≢ j → i < j
-    strictly i j le ne = omega arith
 
 pub ranges_apart : RangesApart
 ranges_apart n msid es m =

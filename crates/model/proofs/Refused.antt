@@ -1,7 +1,7 @@
 -- A request refused changes no cell but a try counter, and no PIN.
 use Prim.Native.Nat.{ℕ, ◌+◌, ◌<◌}
 use mathlib.Core.Path.{◌≡◌, refl, sym, ap, subst}
-use mathlib.Core.Bool.{Bool, true, false, cond}
+use mathlib.Core.Bool.{cond}
 use mathlib.Core.List.{List}
 use mathlib.Core.Logic.{◌≢◌, ◌⊎◌, inl, inr}
 use native.Mathlib.Decide.{ℕ_discrete, dec_lt}
@@ -16,16 +16,13 @@ use Rattle.model.specs.Apply.{missed_row, missed, apply}
 use Rattle.model.specs.Step.{after}
 use Rattle.model.specs.Laws.{Refuses, OnlyTries, RefusedKeeps}
 use Rattle.model.proofs.Moves.{moves}
+use Rattle.model.proofs.Cases.{whichever}
 
 elsewhere : (c : Cells) (r q : ℕ) → q ≢ r → R.tries_at (missed c r) q ≡ R.tries_at c q
 elsewhere c r q h = ap (λ x. x.tries) (get_or-set_other c.pins r q _ _ h)
 
 at_most_one : (k : ℕ) → (cond (ltb k R.try_limit) (k + 1) k ≡ k) ⊎ (cond (ltb k R.try_limit) (k + 1) k ≡ k + 1)
-at_most_one k = go (ltb k R.try_limit)
-  where
-    go : (b : Bool) → (cond b (k + 1) k ≡ k) ⊎ (cond b (k + 1) k ≡ k + 1)
-    go true = inr refl
-    go false = inl refl
+at_most_one k = whichever (λ x. (x ≡ k) ⊎ (x ≡ k + 1)) (ltb k R.try_limit) _ _ (inr refl) (inl refl)
 
 counted : (c : Cells) (r q : ℕ) → (R.tries_at (missed c r) q ≡ R.tries_at c q) ⊎ (R.tries_at (missed c r) q ≡ R.tries_at c q + 1)
 counted c r q = go (ℕ_discrete q r) (dec_lt r (length c.pins))

@@ -1,7 +1,7 @@
 -- What the resets leave, cell by cell.
 use Prim.Native.Nat.{ℕ, ◌<◌}
 use mathlib.Core.Path.{◌≡◌, refl, sym, ◌∙◌, ap, subst}
-use mathlib.Core.Bool.{Bool, true, false, not, cond, true≢false}
+use mathlib.Core.Bool.{Bool, true, false, true≢false}
 use mathlib.Core.List.{List}
 use mathlib.Core.Logic.{⊎_elim}
 use native.Mathlib.Omega.{arith}
@@ -18,11 +18,14 @@ use Rattle.model.specs.Step as Z
 use Rattle.model.specs.Step.{powered, was_reset, next}
 use Rattle.model.specs.Numbers.{First, Disabled}
 use Rattle.model.specs.Resets.{SameOthers, Locked, NoSession, NoPin, NoRow, NoTransaction, Restarted, PowerCycles, TperResets}
-use Rattle.model.proofs.Cases.{cond_ind}
+use Rattle.model.proofs.Cases.{whichever}
 use Rattle.model.proofs.TurnedAway.{reset-keeps}
-use Rattle.model.proofs.Numbered.{numbers-in-order}
-use Rattle.model.proofs.Parts.{same-all, reset-long}
+use Rattle.model.proofs.Numbered.{numbers-in-order, sound-power, disabled-decides}
+use Rattle.model.proofs.Parts.{same-all, reset-long, no-tries}
 use Rattle.model.proofs.Transactions.{power-card, reset-card}
+use Rattle.std.proofs.lemmas.Bool.{cond-true, cond-false, not-false}
+use Rattle.ranges.proofs.Decide.{is_false}
+use Rattle.model.proofs.Heard.{reset-ind}
 
 -- ---- the tables
 same-others : (on : Bool) (rows : List Row) (i : ℕ) → i < length rows → SameOthers (row_at rows i) (row_at (reset_rows on rows) i)
@@ -79,17 +82,6 @@ no-row i = rw (same-all row_count i no_row) (record { numbers = (refl, refl); en
 no_pins : (r : ℕ) → r < R.pin_count → NoPin (R.secret_at R.no_secrets r)
 no_pins r l = rw (get_or-replicate R.pin_count r R.no_secret _ l) no_pin
 
-none_kept : (live : Bool) (v : Vault) → (Y.given_up live v).kept ≡ R.no_secrets
-none_kept true v = refl
-none_kept false v = refl
-
--- the test of a transaction, where it is known
-on-true : {A : Type 0} (b : Bool) (x y : A) → b ≡ true → cond b x y ≡ x
-on-true b x y e = rw e refl
-
-on-false : {A : Type 0} (b : Bool) (x y : A) → b ≡ false → cond b x y ≡ y
-on-false b x y e = rw e refl
-
 -- ---- both resets
 module _ (k : Card) (l : List PinRow) (x : Tsn) where
   abbrev again : Card
@@ -102,7 +94,7 @@ module _ (k : Card) (l : List PinRow) (x : Tsn) where
     rows = (refl, no-row);
     mbr = refl;
     enabled = (refl, λ r. same-all R.pin_count r false);
-    pins = rw (none_kept k.cells.undo.live k.vault) (refl, no_pins);
+    pins = rw (whichever (λ (v : Vault). v.kept ≡ R.no_secrets) k.cells.undo.live (Y.put_back k.vault) (Y.wiped k.vault) refl refl) (refl, no_pins);
   }
 
   restarted : Restarted k again
@@ -111,20 +103,16 @@ module _ (k : Card) (l : List PinRow) (x : Tsn) where
     session = no-session;
     transaction = no-transaction;
     abandoned = λ e. (
-      subst (λ (t : Tables). Locked t (A.relocked (A.settled_tables k.cells))) (on-true k.cells.undo.live k.cells.undo.was k.cells.tables e)
+      subst (λ (t : Tables). Locked t (A.relocked (A.settled_tables k.cells))) (cond-true k.cells.undo.live k.cells.undo.was k.cells.tables e)
           (locked (A.settled_tables k.cells)),
-      ap (λ (v : Vault). v.live) (on-true k.cells.undo.live (Y.put_back k.vault) (Y.wiped k.vault) e),
+      ap (λ (v : Vault). v.live) (cond-true k.cells.undo.live (Y.put_back k.vault) (Y.wiped k.vault) e),
     );
     else = λ e. (
-      subst (λ (t : Tables). Locked t (A.relocked (A.settled_tables k.cells))) (on-false k.cells.undo.live k.cells.undo.was k.cells.tables e)
+      subst (λ (t : Tables). Locked t (A.relocked (A.settled_tables k.cells))) (cond-false k.cells.undo.live k.cells.undo.was k.cells.tables e)
           (locked (A.settled_tables k.cells)),
-      ap (λ (v : Vault). v.live) (on-false k.cells.undo.live (Y.put_back k.vault) (Y.wiped k.vault) e),
+      ap (λ (v : Vault). v.live) (cond-false k.cells.undo.live (Y.put_back k.vault) (Y.wiped k.vault) e),
     );
   }
-
-power-number : (k : Card) → sound k ≡ true → (Z.power k).number ≡ 0
-unfolding Z.power
-power-number k h = rw h refl
 
 power-next : (k : Card) → sound k ≡ true → next k powered ≡ again k R.no_tries (record { 0 = 1 })
 unfolding next
@@ -132,25 +120,15 @@ power-next k h = power-card k h
 
 pub power-cycles : (k : Card) → sound k ≡ true → PowerCycles k
 power-cycles k h = record {
-  number = power-number k h;
+  number = sound-power k h;
   restarts = rw (power-next k h) (restarted k R.no_tries (record { 0 = 1 }));
-  tries = rw (power-next k h) (refl, λ r. ap (λ (x : PinRow). x.tries) (same-all {A = PinRow} R.pin_count r (record { tries = 0 })));
+  tries = rw (power-next k h) (refl, no-tries);
   tsn = rw (power-next k h) refl;
 }
 
--- where column 8 is not set, TPER_RESET is disabled
-unset : (k : Card) → (A.settled_tables k.cells).resettable ≡ false → Disabled k
-unset k e = record {
-  within = λ l. ap (λ (t : Tables). t.resettable) (sym (on-true k.cells.undo.live k.cells.undo.was k.cells.tables l)) ∙ e;
-  outside = λ l. ap (λ (t : Tables). t.resettable) (sym (on-false k.cells.undo.live k.cells.undo.was k.cells.tables l)) ∙ e;
-}
-
+-- where column 8 is set, TPER_RESET is not disabled
 is_set : (k : Card) → (Disabled k → ⊥) → (A.settled_tables k.cells).resettable ≡ true
-is_set k n = go (A.settled_tables k.cells).resettable refl
-  where
-    go : (b : Bool) → (A.settled_tables k.cells).resettable ≡ b → b ≡ true
-    go true e = refl
-    go false e = absurd (n (unset k e))
+is_set k n = not-false _ (is_false _ (disabled-decides k) n)
 
 -- which number it is: 7 or 0
 numbered : (k : Card) → sound k ≡ true → First (Z.reset k).number 7 (Disabled k) ((Z.reset k).number ≡ 0)
@@ -175,10 +153,7 @@ abbrev Stays : Card → Z.Reply → Type 0
 Stays k x = (x.card.cells.pins ≡ k.cells.pins) × (x.card.cells.next ≡ k.cells.next)
 
 stays : (k : Card) → Stays k (Z.reset k)
-unfolding Z.reset
-stays k =
-    cond_ind (Stays k) (not (sound k)) _ _ (λ _. (refl, refl)) λ _.
-    cond_ind (Stays k) (not (A.settled_tables k.cells).resettable) _ _ (λ _. (refl, refl)) (λ _. (refl, refl))
+stays k = reset-ind (Stays k) k (λ _. (refl, refl)) (refl, refl)
 
 pub tper-resets : (k : Card) → sound k ≡ true → TperResets k
 unfolding next

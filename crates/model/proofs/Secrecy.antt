@@ -7,10 +7,10 @@ use Rattle.model.specs.Types.{Card, Judged}
 use Rattle.model.specs.Sound.{sound}
 use Rattle.model.specs.declared.Judged.TheVariants.{Settled, Compare}
 use Rattle.model.specs.Vault.{part, matches, decided}
-use Rattle.model.specs.Step.{Heard, turned, judged, heard, reply_to, power, reset, media, Event, packet, powered, was_reset, asked, next}
+use Rattle.model.specs.Step.{Reply, Heard, turned, judged, heard, reply_to, power, reset, media, Event, packet, powered, was_reset, asked, next}
 use Rattle.model.specs.Seen.{of_reply, sees, trace, answered, of_heard, of_judged}
 use Rattle.model.specs.Laws.{Secrecy}
-use Rattle.model.proofs.Moves.{number_of, bytes_of, cells_of}
+use Rattle.model.proofs.Cases.{of_cond}
 
 -- both sound, and alike but for the PINs
 record Alike (j k : Card) : Type 0 where
@@ -40,7 +40,7 @@ sees-alike : (j k : Card) (e : Event) → Alike j k → answered j e ≡ answere
 unfolding sees answered power reset media
 sees-alike j k (packet room s) a e = rw (heard-alike j k room s a) (reply-alike j k (heard k room s) a.cells (rw (heard-alike j k room s a) at e))
 sees-alike j k powered a e = rw (a.first, a.other, a.cells) refl
-sees-alike j k was_reset a e = simp (a.first, a.other, a.cells, number_of, bytes_of, cells_of)
+sees-alike j k was_reset a e = simp (a.first, a.other, a.cells, of_cond (λ (r : Reply). r.number), of_cond (λ (r : Reply). r.bytes), of_cond (λ (r : Reply). r.card.cells))
 sees-alike j k (asked write start count) a e = rw (a.first, a.other, a.cells) refl
 
 -- what is seen has the cells in it

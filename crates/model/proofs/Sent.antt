@@ -13,7 +13,7 @@ use Rattle.payload.specs.declared.Payload.TheVariants as P
 use Rattle.value.specs.Read.{values_at}
 use Rattle.ranges.specs.Decides.{Decides}
 use Rattle.ranges.proofs.Decide.{map, dec-and}
-use Rattle.model.specs.Types.{Tsn, Hsn, Cells, Vault, Card, Decision}
+use Rattle.model.specs.Types.{Tsn, Hsn, Card, Decision}
 use Rattle.model.specs.declared.Decision.TheVariants as D
 use Rattle.model.specs.Judge.{judge_manager}
 use Rattle.model.specs.Vault.{decided}
@@ -76,27 +76,6 @@ sent-taken k was_reset p i = absurd i
 sent-taken k (asked write start count) p i = absurd i
 
 -- ---- each control payload
-module _ (c : Cells) (v : Vault) (s : List ℕ) where
-  begin-is : c.undo.live ≡ false → decided v s (judge_session c s P.Begin) ≡ D.Began
-  unfolding decided judge_session
-  begin-is h = rw h refl
-
-  commit-is : c.undo.live ≡ true → decided v s (judge_session c s P.Commit) ≡ D.Committed
-  unfolding decided judge_session
-  commit-is h = rw h refl
-
-  abandon-is : c.undo.live ≡ true → decided v s (judge_session c s P.Abandon) ≡ D.Abandoned
-  unfolding decided judge_session
-  abandon-is h = rw h refl
-
-  end_is : decided v s (judge_session c s P.EndSession) ≡ D.Ended
-  unfolding decided judge_session
-  end_is = refl
-
-  broken-is : decided v s (judge_session c s P.Broken) ≡ D.Broke
-  unfolding decided judge_session
-  broken-is = refl
-
 -- an event of which d is decided
 abbrev pub Takes : Card → Event → Decision → Type 0
 Takes k e d = (s : List ℕ) × (taken k e ≡ took s d)
@@ -110,15 +89,19 @@ module _ (k : Card) (e : Event) where
   decides p d i f = let (s, t) = sent-taken k e p i in (s, t ∙ ap (took s) (f s))
 
   pub begins-taken : Begins k e → Takes k e D.Began
-  begins-taken b = decides P.Begin D.Began b.0 (λ s. begin-is k.cells k.vault s b.1)
+  unfolding decided judge_session
+  begins-taken b = decides P.Begin D.Began b.0 (λ s. rw b.1 refl)
 
   pub commits-taken : Commits k e → Takes k e D.Committed
-  commits-taken b = decides P.Commit D.Committed b.0 (λ s. commit-is k.cells k.vault s b.1)
+  unfolding decided judge_session
+  commits-taken b = decides P.Commit D.Committed b.0 (λ s. rw b.1 refl)
 
   pub abandon-taken : Sends k e P.Abandon → k.cells.undo.live ≡ true → Takes k e D.Abandoned
-  abandon-taken i h = decides P.Abandon D.Abandoned i (λ s. abandon-is k.cells k.vault s h)
+  unfolding decided judge_session
+  abandon-taken i h = decides P.Abandon D.Abandoned i (λ s. rw h refl)
 
   pub abandons-taken : Abandons k e → (d : Decision) × Takes k e d × Dies d
+  unfolding decided judge_session
   abandons-taken (inl b) = (D.Abandoned, abandon-taken b.0 b.1, inl refl)
-  abandons-taken (inr (inl b)) = (D.Ended, decides P.EndSession D.Ended b (end_is k.cells k.vault), inr (inl refl))
-  abandons-taken (inr (inr b)) = (D.Broke, decides P.Broken D.Broke b (broken-is k.cells k.vault), inr (inr refl))
+  abandons-taken (inr (inl b)) = (D.Ended, decides P.EndSession D.Ended b (λ s. refl), inr (inl refl))
+  abandons-taken (inr (inr b)) = (D.Broke, decides P.Broken D.Broke b (λ s. refl), inr (inr refl))

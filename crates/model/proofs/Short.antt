@@ -1,7 +1,8 @@
 -- "An answer never exceeds 2,048 bytes": whatever is decided its payload is far shorter, for no column past 19 is ever told.
+use Rattle.std.proofs.lemmas.Bool.{and_parts, and_right}
 use Prim.Native.Nat.{ℕ, zero, suc, ◌+◌, ◌-◌, ◌*◌, ◌^◌, ◌≤◌, ◌<◌}
 use mathlib.Core.Path.{◌≡◌, refl, sym, ◌∙◌}
-use mathlib.Core.Bool.{Bool, true, false, ◌&&◌, cond, true≢false}
+use mathlib.Core.Bool.{Bool, true, false, ◌&&◌, true≢false}
 use mathlib.Core.List.{List, [], ◌∷◌, ◌++◌}
 use mathlib.Core.Logic.{⊎_elim}
 use native.Mathlib.Nat.{div-eq_of_lt, lt_of_lt_of_le, pow-le-pow_right}
@@ -14,7 +15,6 @@ use Rattle.token.specs.Write.{enc_int, enc_bytes}
 use Rattle.token.proofs.Laws.{lt-or-le}
 use Rattle.token.proofs.Writes.{be-length, cond-all}
 use Rattle.token.proofs.Forms.{sized, tiny-length, short-length, head-some, bytes-length}
-use Rattle.model.proofs.Cases.{both}
 use Rattle.value.specs.Plain.{int, bytes, Plain, atom, list, named, Plains, none, more}
 use Rattle.tape.specs.Write.{enc_value, enc_values, enc_atom}
 use Rattle.model.specs.Types.{Session, Cells, Object, Access, Status, Decision}
@@ -24,6 +24,7 @@ use Rattle.model.specs.declared.Decision.TheVariants as D
 use Rattle.model.specs.Uids as U
 use Rattle.model.specs.Access.{access_rows, some_row, is_for, kind_of, self_of, holds, has_column, allowed_column}
 use Rattle.model.specs.Answer.{number, uid, one, two, resets, status_number, result_of, manager_call, cell_past0, cell, told, answer}
+use Rattle.model.proofs.Cases.{whichever}
 
 -- ---- no column past 19 is in a row of the access table
 few : (m c : ℕ) → m < 2 ^ 20 → 20 ≤ c → has_column m c ≡ false
@@ -34,17 +35,12 @@ abbrev below : List Access → Bool
 below [] = true
 below (a ∷ l) = ltb a.columns (2 ^ 20) && below l
 
-dropped : (a b : Bool) → (a && (b && false)) ≡ false
-dropped true true = refl
-dropped true false = refl
-dropped false b = refl
-
 no-row : (f g : Access → Bool) (c : ℕ) (l : List Access) → 20 ≤ c → below l ≡ true → some_row (λ a. f a && (g a && has_column a.columns c)) l ≡ false
 unfolding some_row
 no-row f g c [] h b = refl
 no-row f g c (a ∷ l) h b =
-    let (m, r) = both (ltb a.columns (2 ^ 20)) (below l) b in
-    rw (few a.columns c (ltb-true _ _ m) h, dropped (f a) (g a)) (no-row f g c l h r)
+    let (m, r) = and_parts (ltb a.columns (2 ^ 20)) (below l) b in
+    rw (few a.columns c (ltb-true _ _ m) h, and_right (f a) _ (and_right (g a) _ refl)) (no-row f g c l h r)
 
 all-below : below access_rows ≡ true
 unfolding access_rows
@@ -92,26 +88,22 @@ msid-short : (c : Cells) → length c.msid ≡ 32 → Short (atom (bytes c.msid)
 unfolding enc_value enc_atom
 msid-short c h = bytes-short c.msid 32 h (omega arith)
 
-either : (b : Bool) (x y : Plain) → Short x → Short y → Short (cond b x y)
-either true x y f g = f
-either false x y f g = g
-
 past-short : (c : Cells) (o : Object) (k : ℕ) → length c.msid ≡ 32 → Short (cell_past0 c o k)
 unfolding cell_past0
-past-short c O.PinSid k h = search (either, number_short)
+past-short c O.PinSid k h = search (whichever Short, number_short)
 past-short c O.PinMsid k h = msid-short c h
 past-short c O.TperInfo k h = number_short _
 past-short c O.SpAdmin k h = number_short _
 past-short c O.SpLocking k h = number_short _
 past-short c O.ThisSp k h = number_short _
 past-short c (O.Authority r) k h = number_short _
-past-short c (O.Pin r) k h = search (either, number_short)
-past-short c (O.Range i) k h = search (either, number_short, resets-short) depth 9
-past-short c O.MbrControl k h = search (either, number_short, resets-short)
+past-short c (O.Pin r) k h = search (whichever Short, number_short)
+past-short c (O.Range i) k h = search (whichever Short, number_short, resets-short) depth 9
+past-short c O.MbrControl k h = search (whichever Short, number_short, resets-short)
 past-short c O.Nothing k h = number_short _
 
 pub cell-short : (c : Cells) (o : Object) (k : ℕ) → length c.msid ≡ 32 → Short (cell c o k)
-cell-short c o k h = either (eqb k 0) _ _ (uid-cell (U.uid_of o)) (past-short c o k h)
+cell-short c o k h = whichever Short (eqb k 0) _ _ (uid-cell (U.uid_of o)) (past-short c o k h)
 
 -- ---- lists of them
 item-length : (k : ℕ) (v : Plain) (l : Plains) → length (enc_values (more (named (int k) v) l)) ≡ 2 + length (enc_int k) + length (enc_value v) + length (enc_values l)

@@ -5,7 +5,7 @@ use mathlib.Core.List.{List, [], ◌++◌}
 use mathlib.Core.Logic.{◌≢◌}
 use native.Mathlib.Omega.{arith}
 use lib.ListN.{length, get_or, drop, length-append, length-drop}
-use lib.Seq.{get_or-drop, get_or-append-add}
+use lib.Seq.{get_or-drop, get_or-append_right}
 use Rattle.model.specs.Types.{Card, Outcome}
 use Rattle.model.specs.Step.{Reply, command, buffer_of}
 use Rattle.model.specs.Single.{Meets, OneOutcome}
@@ -19,10 +19,7 @@ buffer-length r old h = simp (length-append, length-drop) (omega arith)
 past-front : (a old : List ℕ) (i : ℕ) → length a ≤ i → get_or (a ++ drop (length a) old) i 0 ≡ get_or old i 0
 past-front a old i h =
     let e : length a + (i - length a) ≡ i = omega arith in
-    ap (λ (j : ℕ). get_or (a ++ drop (length a) old) j 0) (sym e)
-    ∙ get_or-append-add a (drop (length a) old) (i - length a) 0
-    ∙ get_or-drop (length a) old (i - length a) 0
-    ∙ ap (λ (j : ℕ). get_or old j 0) e
+    get_or-append_right a (drop (length a) old) i 0 h ∙ get_or-drop (length a) old (i - length a) 0 ∙ ap (λ (j : ℕ). get_or old j 0) e
 
 bare-buffer : (r : Reply) (old : List ℕ) → r.bytes ≡ [] → buffer_of r old ≡ old
 bare-buffer r old e = rw e refl

@@ -30,7 +30,12 @@ pub dec-off : (b : Bool) → Decides (not b) (b ≡ false)
 dec-off true = from_false refl true≢false
 dec-off false = from-true refl refl
 
-dec-cond : {P Q : Type 0} (a x y : Bool) → Decides x P → Decides y Q → Decides (cond a x y) ((a ≡ true → P) × (a ≡ false → Q))
+-- what cannot fail holds
+pub stable : {P : Type 0} (b : Bool) → Decides b P → ((P → ⊥) → ⊥) → P
+stable true d f = d.holds refl
+stable false d f = absurd (f (d.fails refl))
+
+pub dec-cond : {P Q : Type 0} (a x y : Bool) → Decides x P → Decides y Q → Decides (cond a x y) ((a ≡ true → P) × (a ≡ false → Q))
 dec-cond true x y p q = map (λ h. ((λ _. h), (λ e. absurd (true≢false e)))) (λ h. h.0 refl) p
 dec-cond false x y p q = map (λ h. ((λ e. absurd (true≢false (sym e))), (λ _. h))) (λ h. h.1 refl) q
 

@@ -1,13 +1,13 @@
 -- The row as it would stand after a Set, and the values of a Set: each test fails exactly where the fault is.
 use Rattle.std.specs.Prelude.{unwrap_or, is_none, Option, Some, None}
-use Prim.Native.Nat.{ℕ, zero, suc, ◌≤◌, ◌<◌}
+use Prim.Native.Nat.{ℕ, ◌<◌}
 use mathlib.Core.Path.{◌≡◌, refl, sym, ◌∙◌, ap, subst}
-use mathlib.Core.Bool.{Bool, true, false, not, true≢false}
+use mathlib.Core.Bool.{Bool, true, false, not}
 use mathlib.Core.List.{List}
-use mathlib.Core.Logic.{◌≢◌, ◌⊎◌, inl, inr}
+use mathlib.Core.Logic.{◌≢◌, ◌⊎◌, inl, inr, ⊎_elim}
 use native.Mathlib.Decide.{ℕ_discrete}
 use native.Mathlib.Omega.{arith}
-use borrow.Author.Tests.{eqb-true, eqb-false, lt-ltb, le-ltb}
+use borrow.Author.Tests.{lt-ltb, le-ltb}
 use lib.Dec.{ltb, eqb}
 use lib.ListN.{length, get_or, set, length-set}
 use lib.Seq.{get_or-set_same, get_or-set_other}
@@ -30,6 +30,7 @@ use Rattle.model.specs.Judge as J
 use Rattle.model.specs.Standing.{NumberAs, FlagAs, ResetsAs, RowAs, OnlyAt}
 use Rattle.model.specs.Wants.{WouldNotFit, BadValues}
 use Rattle.model.proofs.Faults as F
+use Rattle.std.proofs.lemmas.Bool.Decides.{eqb_tells}
 
 -- ---- a cell after a Set
 pub number-as : (x : Slot) (old : ℕ) → NumberAs x old (unwrap_or (J.number_in x) old)
@@ -49,11 +50,7 @@ number-one (S.List p) old a b e q = e ∙ sym q
 number-one S.Named old a b p q = p ∙ sym q
 
 is_one : (v : ℕ) → ((v ≡ 1) × (eqb v 1 ≡ true)) ⊎ ((v ≢ 1) × (eqb v 1 ≡ false))
-is_one v = go (eqb v 1) refl
-  where
-    go : (b : Bool) → eqb v 1 ≡ b → ((v ≡ 1) × (b ≡ true)) ⊎ ((v ≢ 1) × (b ≡ false))
-    go true e = inl (eqb-true v 1 e, refl)
-    go false e = inr (eqb-false v 1 e, refl)
+is_one v = ⊎_elim (λ p. inl (p.1, p.0)) (λ p. inr (p.1, p.0)) (eqb_tells v 1)
 
 pub flag-as : (x : Slot) (old : Bool) → FlagAs x old (unwrap_or (J.flag_in x) old)
 unfolding J.flag_in
@@ -65,8 +62,8 @@ flag-as S.Named old = refl
 
 with-program : (x : Option Resets) → ((x ≡ Some X.Program) × (J.with_program x ≡ true)) ⊎ ((x ≢ Some X.Program) × (J.with_program x ≡ false))
 unfolding J.with_program
-with-program None = inr (λ e. true≢false (sym (ap J.with_program e)), refl)
-with-program (Some X.Power) = inr (λ e. true≢false (sym (ap J.with_program e)), refl)
+with-program None = inr (λ e. cc, refl)
+with-program (Some X.Power) = inr (λ e. cc, refl)
 with-program (Some X.Program) = inl (refl, refl)
 
 pub resets-as : (s : List ℕ) (x : Slot) (old : Bool) → ResetsAs s x old (unwrap_or (J.resets_in s x) old)
@@ -129,11 +126,7 @@ module _ (c : Cells) (s : List ℕ) (t : Columns) (k : ℕ) (there : k < length 
     where
       go : Dec (k ≡ 0) → imp (ltb k 1) (keeps_span (J.edit_in s t)) ≡ true
       go (yes e) = simp (lt-ltb k 1 (omega arith), keeps-none (column_at t 3) (f e).0, keeps-none (column_at t 4) (f e).1)
-      go (no n) = simp (le-ltb k 1 (pos k n))
-        where
-          pos : (k : ℕ) → k ≢ 0 → 1 ≤ k
-          pos zero n = absurd (n refl)
-          pos (suc k) n = omega arith
+      go (no n) = simp (le-ltb k 1 (omega arith))
 
   pub not-set-ok : (k ≡ 0 → (column_at t 3 ≡ S.Absent) × (column_at t 4 ≡ S.Absent))
       → Decides (not (set_ok c.tables.rows k (J.edit_in s t) c.n)) (WouldNotFit c s t k)

@@ -96,15 +96,12 @@ pub answered : (k : Card) (room : ℕ) (s r : List ℕ) (tsn hsn : ℕ) (j : Jud
 unfolding reply_to
 answered k room s r tsn hsn j e = ap (λ h. (reply_to k h).bytes) e
 
-not_authorized : status_number E.NotAuthorized ≡ 0x01
-unfolding status_number
-not_authorized = refl
-
 opens : (k : Card) (bytes : List ℕ) (d : Decision) → bytes ≡ says k.cells 0 0 d → R.Opens (Q.started k.cells d) (opening k bytes)
+unfolding status_number
 opens k bytes d b =
     let c = k.cells in
     record {
-      plain = λ p. b ∙ ap (says c 0 0) p ∙ refused c 0 0 E.NotAuthorized ∙ ap (λ n. packet_of 0 0 (refusal n)) not_authorized;
+      plain = λ p. b ∙ ap (says c 0 0) p ∙ refused c 0 0 E.NotAuthorized;
       refused = λ st p. b ∙ ap (says c 0 0) p.1 ∙ not-started c 0 0 p.0 ∙ ap (λ n. packet_of 0 0 (managed 0x03 (refusal n))) p.2;
       wrong = λ w p. b ∙ ap (says c 0 0) p.4 ∙ missed c 0 0 p.0;
       started = λ locking hsn w p. b ∙ ap (says c 0 0) p.1 ∙ started c 0 0 locking hsn w;
@@ -135,20 +132,9 @@ module _ (c : Cells) where
   unfolding broke answer
   ended tsn hsn = refl
 
-  began : (b : Bool) → When (b ≡ true) (Says (cond b D.BeganAlready D.Began) (0xfb ∷ 0x01 ∷ [])) (Says (cond b D.BeganAlready D.Began) (0xfb ∷ 0x00 ∷ []))
-  unfolding broke answer
-  began true = inl (refl, λ tsn hsn. refl)
-  began false = inr (λ e. true≢false (sym e), λ tsn hsn. refl)
-
-  committed : (b : Bool) → When (b ≡ true) (Says (cond b D.Committed D.NoneOpen) (0xfc ∷ 0x00 ∷ [])) (Says (cond b D.Committed D.NoneOpen) (0xfc ∷ 0x01 ∷ []))
-  unfolding broke answer
-  committed true = inl (refl, λ tsn hsn. refl)
-  committed false = inr (λ e. true≢false (sym e), λ tsn hsn. refl)
-
-  abandoned : (b : Bool) → When (b ≡ true) (Says (cond b D.Abandoned D.NoneOpen) (0xfc ∷ 0x00 ∷ [])) (Says (cond b D.Abandoned D.NoneOpen) (0xfc ∷ 0x01 ∷ []))
-  unfolding broke answer
-  abandoned true = inl (refl, λ tsn hsn. refl)
-  abandoned false = inr (λ e. true≢false (sym e), λ tsn hsn. refl)
+  choice : (b : Bool) (x y : Decision) (l m : List ℕ) → Says x l → Says y m → When (b ≡ true) (Says (cond b x y) l) (Says (cond b x y) m)
+  choice true x y l m p q = inl (refl, p)
+  choice false x y l m p q = inr (λ e. true≢false (sym e), q)
 
 -- ---- the law
 on-manager : (k : Card) (room : ℕ) (s : List ℕ) (start len object method params : ℕ) → Comes k room s 0 0 start len (P.Call object method params)
@@ -188,16 +174,19 @@ module _ (k : Card) (room : ℕ) (s : List ℕ) where
   ends = replies k room s P.EndSession _ _ (λ r. refl) (ended k.cells)
 
   begins : When (k.cells.undo.live ≡ true) (Replies k room s P.Begin (0xfb ∷ 0x01 ∷ [])) (Replies k room s P.Begin (0xfb ∷ 0x00 ∷ []))
-  unfolding judge_session decided
-  begins = let so = replies k room s P.Begin _ in R.when (so _ (λ r. refl)) (so _ (λ r. refl)) (began k.cells k.cells.undo.live)
+  unfolding judge_session decided broke answer
+  begins = let so = replies k room s P.Begin _ in R.when (so _ (λ r. refl)) (so _ (λ r. refl))
+      (choice k.cells k.cells.undo.live D.BeganAlready D.Began _ _ (λ tsn hsn. refl) (λ tsn hsn. refl))
 
   commits : When (k.cells.undo.live ≡ true) (Replies k room s P.Commit (0xfc ∷ 0x00 ∷ [])) (Replies k room s P.Commit (0xfc ∷ 0x01 ∷ []))
-  unfolding judge_session decided
-  commits = let so = replies k room s P.Commit _ in R.when (so _ (λ r. refl)) (so _ (λ r. refl)) (committed k.cells k.cells.undo.live)
+  unfolding judge_session decided broke answer
+  commits = let so = replies k room s P.Commit _ in R.when (so _ (λ r. refl)) (so _ (λ r. refl))
+      (choice k.cells k.cells.undo.live D.Committed D.NoneOpen _ _ (λ tsn hsn. refl) (λ tsn hsn. refl))
 
   abandons : When (k.cells.undo.live ≡ true) (Replies k room s P.Abandon (0xfc ∷ 0x00 ∷ [])) (Replies k room s P.Abandon (0xfc ∷ 0x01 ∷ []))
-  unfolding judge_session decided
-  abandons = let so = replies k room s P.Abandon _ in R.when (so _ (λ r. refl)) (so _ (λ r. refl)) (abandoned k.cells k.cells.undo.live)
+  unfolding judge_session decided broke answer
+  abandons = let so = replies k room s P.Abandon _ in R.when (so _ (λ r. refl)) (so _ (λ r. refl))
+      (choice k.cells k.cells.undo.live D.Abandoned D.NoneOpen _ _ (λ tsn hsn. refl) (λ tsn hsn. refl))
 
 pub statuses-as-said : StatusesAsSaid
 statuses-as-said = record {

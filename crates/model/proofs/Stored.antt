@@ -8,8 +8,7 @@ use borrow.Author.Tests.{ne_eqb, le-leb}
 use lib.Dec.{eqb}
 use lib.ListN.{length, set, replicate}
 use lib.Seq.{take_all, take-append_seam}
-use Rattle.model.specs.Types.{Secret, Cells, Card, Who, Change, Decision}
-use Rattle.model.specs.declared.Who.TheVariants as W
+use Rattle.model.specs.Types.{Secret, Cells, Card, Change, Decision}
 use Rattle.model.specs.declared.Change.TheVariants as C
 use Rattle.model.specs.declared.Decision.TheVariants as D
 use Rattle.model.specs.Record as R
@@ -28,17 +27,15 @@ use Rattle.model.proofs.Came.{comes}
 use Rattle.model.proofs.Signed.{Cases, by_sign}
 use Rattle.model.proofs.Parts.{all_same}
 use Rattle.model.proofs.Told.{put}
+use Rattle.model.proofs.Cases.{of_cond}
+use Rattle.model.proofs.Moves.{cleared-tries}
 
 -- the PIN of row r in a list of them
 abbrev pin_at : List Secret → ℕ → List ℕ
 pin_at l r = R.pin_of (R.secret_at l r)
 
-pin_of_lem : (b : Bool) (x y : Secret) → R.pin_of (cond b x y) ≡ cond b (R.pin_of x) (R.pin_of y)
-pin_of_lem true x y = refl
-pin_of_lem false x y = refl
-
 put-pin : (l : List Secret) (q r : ℕ) (x : Secret) → q < length l → pin_at (set l q x) r ≡ cond (eqb q r) (R.pin_of x) (pin_at l r)
-put-pin l q r x h = ap R.pin_of (put l q r x _ h) ∙ pin_of_lem (eqb q r) _ _
+put-pin l q r x h = ap R.pin_of (put l q r x _ h) ∙ of_cond R.pin_of (eqb q r) _ _
 
 no_pins : (n r : ℕ) → pin_at (replicate n R.no_secret) r ≡ []
 no_pins n = all_same (λ (x : Secret). R.pin_of x ≡ []) n R.no_secret (record { bytes = []; len = 0 }) refl refl
@@ -81,13 +78,6 @@ module _ (k : Card) (h : SoundRecord k) (x : Pins) (a : Agree k x) where
     was = λ l. absurd (true≢false (sym l ∙ ap (λ u. u.live) e));
   }
 
-  cleared : (w : Who) → (A.cleared k.cells w).undo ≡ k.cells.undo
-  unfolding A.cleared
-  cleared W.Unknown = refl
-  cleared W.Anybody = refl
-  cleared W.Class = refl
-  cleared (W.Row r) = refl
-
   sid-only : (r : ℕ) → pin_at (set R.no_secrets 0 (R.secret_at k.vault.live 0)) r ≡ cond (eqb 0 r) (x.now 0) []
   sid-only r = put-pin R.no_secrets 0 r (R.secret_at k.vault.live 0) (omega arith) ∙ rw (a.now 0, no_pins R.pin_count r) refl
 
@@ -113,10 +103,10 @@ module _ (k : Card) (h : SoundRecord k) (x : Pins) (a : Agree k x) where
   decides s (D.Refuse c) p f = a
   decides s (D.NotStarted c) p f = a
   decides s (D.Missed q) p f = absurd p
-  decides s (D.Started locking hsn w) p f = untouched _ (cleared w)
+  decides s (D.Started locking hsn w) p f = untouched _ (ap (λ c. c.undo) (cleared-tries k.cells w))
   decides s D.Denied p f = a
   decides s (D.Mistaken q) p f = absurd p
-  decides s (D.Proved w) p f = untouched _ (cleared w)
+  decides s (D.Proved w) p f = untouched _ (ap (λ c. c.undo) (cleared-tries k.cells w))
   decides s (D.Told o first last) p f = a
   decides s (D.Done y) p f = changes s y f.1
   decides s D.Began p f = record { inside = refl; now = a.now; was = λ _. a.now }

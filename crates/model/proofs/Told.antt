@@ -3,9 +3,8 @@ use Prim.Native.Nat.{ℕ, ◌+◌, ◌<◌}
 use mathlib.Core.Path.{◌≡◌, refl, sym, ◌∙◌, ap}
 use mathlib.Core.Bool.{Bool, true, false, cond}
 use mathlib.Core.List.{List}
-use native.Mathlib.Decide.{ℕ_discrete}
 use native.Mathlib.Omega.{arith}
-use borrow.Author.Tests.{eq-eqb, ne_eqb, lt-ltb}
+use borrow.Author.Tests.{lt-ltb, eqb-true, eqb-false}
 use lib.Dec.{eqb}
 use lib.ListN.{length, get_or, set, replicate}
 use lib.Seq.{get_or-set_same, get_or-set_other}
@@ -20,35 +19,23 @@ use Rattle.model.specs.Laws.{SoundRecord}
 use Rattle.model.specs.Signs as S
 use Rattle.model.specs.Tries.{wrongs_after}
 use Rattle.model.specs.Proved.{open_after, proved_after}
-use Rattle.model.proofs.Parts.{same-all}
+use Rattle.model.proofs.Parts.{same-all, no-tries}
 use Rattle.model.proofs.Legal.{LegalChange, Legal}
 use Rattle.model.proofs.Asked.{Plain, Ready}
 use Rattle.model.proofs.Signed.{Cases, by_sign}
+use Rattle.model.proofs.Cases.{cond_ind, of_cond}
+use Rattle.std.proofs.lemmas.Bool.{cond-true, cond-false}
 
 -- a cell of a list that was put
 pub put : {A : Type 0} (l : List A) (q r : ℕ) (x d : A) → q < length l → get_or (set l q x) r d ≡ cond (eqb q r) x (get_or l r d)
-put l q r x d h = go (ℕ_discrete q r)
-  where
-    go : Dec (q ≡ r) → get_or (set l q x) r d ≡ cond (eqb q r) x (get_or l r d)
-    go (yes e) = rw (eq-eqb q r e) (rw (sym e) (get_or-set_same l q x d h))
-    go (no e) = rw (ne_eqb q r e) (get_or-set_other l q r x d (λ f. e (sym f)))
+put l q r x d h =
+    cond_ind (λ y. get_or (set l q x) r d ≡ y) (eqb q r) _ _ (λ e. rw (sym (eqb-true q r e)) (get_or-set_same l q x d h))
+    (λ e. get_or-set_other l q r x d (λ f. eqb-false q r e (sym f)))
 
 -- where q is r, what is said of q is said of r
 at_same : (f : ℕ → ℕ) (q r y : ℕ) → cond (eqb q r) (f q) y ≡ cond (eqb q r) (f r) y
-at_same f q r y = go (ℕ_discrete q r)
-  where
-    go : Dec (q ≡ r) → cond (eqb q r) (f q) y ≡ cond (eqb q r) (f r) y
-    go (yes e) = rw e refl
-    go (no e) = rw (ne_eqb q r e) refl
-
--- and the counter in it
-tries_of_lem : (b : Bool) (x y : PinRow) → (cond b x y).tries ≡ cond b x.tries y.tries
-tries_of_lem true x y = refl
-tries_of_lem false x y = refl
-
-itself : (b : Bool) → cond b true false ≡ b
-itself true = refl
-itself false = refl
+at_same f q r y =
+    cond_ind (λ z. z ≡ cond (eqb q r) (f r) y) (eqb q r) (f q) y (λ e. ap f (eqb-true q r e) ∙ sym (cond-true _ _ _ e)) (λ e. sym (cond-false _ _ _ e))
 
 pub record Tells (r : ℕ) (c d : Cells) (x : S.Sign) : Type 0 where
   pub live : d.session.live ≡ open_after x c.session.live
@@ -57,7 +44,7 @@ pub record Tells (r : ℕ) (c d : Cells) (x : S.Sign) : Type 0 where
 
 module _ (r : ℕ) (c : Cells) (many : length c.pins ≡ R.pin_count) (rows : length c.session.proved ≡ R.pin_count) where
   put-tries : (q n : ℕ) → q < R.pin_count → R.tries_at (R.with_tries c q n) r ≡ cond (eqb q r) n (R.tries_at c r)
-  put-tries q n l = ap (λ (x : PinRow). x.tries) (put c.pins q r (record { tries = n }) _ (rw many l)) ∙ tries_of_lem (eqb q r) _ _
+  put-tries q n l = ap (λ (x : PinRow). x.tries) (put c.pins q r (record { tries = n }) _ (rw many l)) ∙ of_cond (λ (x : PinRow). x.tries) (eqb q r) _ _
 
   none-proved : get_or (replicate R.pin_count false) r false ≡ false
   none-proved = same-all R.pin_count r false
@@ -78,7 +65,7 @@ module _ (r : ℕ) (c : Cells) (many : length c.pins ≡ R.pin_count) (rows : le
   unfolding A.apply A.cleared A.proving open_after proved_after wrongs_after
   entered q locking hsn l = record {
     live = refl;
-    proved = put (replicate R.pin_count false) q r true false l ∙ rw none-proved (itself (eqb q r));
+    proved = put (replicate R.pin_count false) q r true false l ∙ rw none-proved (cond_ind (λ x. x ≡ eqb q r) (eqb q r) true false sym sym);
     tries = put-tries q 0 l;
   }
 
@@ -106,13 +93,10 @@ module _ (r : ℕ) (c : Cells) (many : length c.pins ≡ R.pin_count) (rows : le
   unfolding open_after proved_after wrongs_after
   alike d e f = record { live = ap (λ x. x.live) e; proved = ap (λ x. R.proved_at x r) e; tries = ap (λ (l : List PinRow). (R.pin_row_at l r).tries) f }
 
-  no-tries : (R.pin_row_at R.no_tries r).tries ≡ 0
-  no-tries = ap (λ (x : PinRow). x.tries) (same-all {A = PinRow} R.pin_count r (record { tries = 0 }))
-
   locking-tries : (R.pin_row_at (A.locking_tries c.pins) r).tries ≡ cond (eqb 0 r) (R.tries_at c r) 0
   locking-tries =
       ap (λ (x : PinRow). x.tries) (put R.no_tries 0 r (R.pin_row_at c.pins 0) _ (omega arith))
-      ∙ tries_of_lem (eqb 0 r) _ _ ∙ rw no-tries (at_same (R.tries_at c) 0 r 0)
+      ∙ of_cond (λ (x : PinRow). x.tries) (eqb 0 r) _ _ ∙ rw (no-tries r) (at_same (R.tries_at c) 0 r 0)
 
   -- a session that ends, with the same Tries
   ended : (d : Cells) → d.session ≡ R.no_session → d.pins ≡ c.pins → Tells r c d S.ends
@@ -128,7 +112,7 @@ module _ (r : ℕ) (c : Cells) (many : length c.pins ≡ R.pin_count) (rows : le
   powered d e f = record {
     live = ap (λ x. x.live) e;
     proved = ap (λ x. R.proved_at x r) e ∙ none-proved;
-    tries = ap (λ (l : List PinRow). (R.pin_row_at l r).tries) f ∙ no-tries;
+    tries = ap (λ (l : List PinRow). (R.pin_row_at l r).tries) f ∙ no-tries r;
   }
 
   changes : (s : List ℕ) (x : Change) → LegalChange c x → Tells r c (A.change c x) (S.changed s x)
@@ -141,7 +125,7 @@ module _ (r : ℕ) (c : Cells) (many : length c.pins ≡ R.pin_count) (rows : le
   changes s (C.PutResettable on) f = alike _ refl refl
   changes s C.Activate f = record { live = refl; proved = refl; tries = refl }
   changes s C.RevertLocking f = record { live = refl; proved = refl; tries = locking-tries }
-  changes s C.RevertAdmin f = record { live = refl; proved = none-proved; tries = no-tries }
+  changes s C.RevertAdmin f = record { live = refl; proved = none-proved; tries = no-tries r }
   changes s C.RevertSp f = record { live = refl; proved = none-proved; tries = locking-tries }
 
   decides : (s : List ℕ) (d : Decision) → Plain d → Legal c d → Tells r c (A.apply c d) (S.decided_sign s d)

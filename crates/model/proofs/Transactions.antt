@@ -10,7 +10,6 @@ use native.Mathlib.Decide.{ℕ_discrete}
 use Rattle.ranges.specs.Media.{media_of}
 use Rattle.payload.specs.declared.Payload.TheVariants as P
 use Rattle.model.specs.Types.{Undo, Cells, Secret, Card, Who, Change, Decision}
-use Rattle.model.specs.declared.Who.TheVariants as W
 use Rattle.model.specs.declared.Change.TheVariants as C
 use Rattle.model.specs.declared.Decision.TheVariants as D
 use Rattle.model.specs.Sound.{sound}
@@ -21,9 +20,14 @@ use Rattle.model.specs.Seen.{Taken, nothing, took, taken}
 use Rattle.model.specs.Sent.{Sends}
 use Rattle.model.specs.Laws.{Begins, Abandons, Resets, Commits, Leaves, Inside, Transaction, within, PutBack, AbandonPutsBack, CommitKeeps, NothingShows}
 use Rattle.model.proofs.TurnedAway.{reset-keeps}
-use Rattle.model.proofs.Moves.{rests, moves, number_of}
+use Rattle.model.proofs.Moves.{rests, moves, cleared-tries}
 use Rattle.model.proofs.Decisions.{Fits, decision-fits}
 use Rattle.model.proofs.Sent.{Dies, begins-taken, commits-taken, abandon-taken, abandons-taken}
+use Rattle.model.proofs.Cases.{of_cond}
+use Rattle.model.proofs.Reached.{next-sound, run_sound}
+use Rattle.model.proofs.Soundness.{sound-decides}
+use Rattle.ranges.proofs.Decide.{is_true}
+use Rattle.model.proofs.Heard.{power-ind, reset-ind}
 
 -- what a transaction keeps, and the disk's size
 abbrev held : Card → Undo × List Secret × ℕ
@@ -51,11 +55,7 @@ by-change k s C.RevertAdmin = refl
 by-change k s C.RevertSp = refl
 
 cleared-held : (k : Card) (w : Who) → ((cleared k.cells w).undo, k.vault.kept, (cleared k.cells w).n) ≡ held k
-unfolding cleared
-cleared-held k W.Unknown = refl
-cleared-held k W.Anybody = refl
-cleared-held k W.Class = refl
-cleared-held k (W.Row r) = refl
+cleared-held k w = ap (λ (c : Cells). (c.undo, k.vault.kept, c.n)) (cleared-tries k.cells w)
 
 -- a decision says what came in
 by-decision : (k : Card) (e : Event) (s : List ℕ) (d : Decision) → Fits (Sends k e) k.cells d → k.cells.undo.live ≡ true → (Leaves k e → ⊥)
@@ -109,14 +109,11 @@ unfolding run
 over-run j k [] i h = i
 over-run j k (e ∷ es) i h = over-run j (next k e) es (still j k (next k e) (by-event k e i.live h.0) i) h.1
 
-at-begin : (k : Card) (s : List ℕ) → In k (after k s D.Began)
-unfolding apply obey
-at-begin k s = record { live = refl; tables = refl; pins = refl; size = refl }
-
 in-it : (k : Card) (e : Event) (es : List Event) → Transaction k e es → In k (within k e es)
+unfolding apply obey
 in-it k e es t =
     let (s, b) = begins-taken k e t.begins in
-    over-run k (next k e) es (rw (moves k e s D.Began b) (at-begin k s)) t.inside
+    over-run k (next k e) es (rw (moves k e s D.Began b) (record { live = refl; tables = refl; pins = refl; size = refl })) t.inside
 
 -- ---- the tables and PINs that stand when the transaction is given up
 abbrev settled_pins : Card → List Secret
@@ -135,10 +132,6 @@ at-end j k s d i (inl h) = rw h (record { tables = i.tables; pins = i.pins; clos
 at-end j k s d i (inr (inl h)) = rw h (record { tables = (settled-open j k i).0; pins = (settled-open j k i).1; closed = refl })
 at-end j k s d i (inr (inr h)) = rw h (record { tables = (settled-open j k i).0; pins = (settled-open j k i).1; closed = refl })
 
-at-commit : (k : Card) (s : List ℕ) → PutBack k (after k s D.Committed)
-unfolding apply obey
-at-commit k s = record { tables = refl; pins = refl; closed = refl }
-
 -- with none open the end of the session keeps all, and nothing is abandoned
 at_none : (k : Card) (y : Event) (s : List ℕ) (d : Decision) → k.cells.undo.live ≡ false → Fits (Sends k y) k.cells d → Dies d → PutBack k (after k s d)
 unfolding apply obey
@@ -150,21 +143,16 @@ put_back : (j k l : Card) → PutBack j k → PutBack k l → PutBack j l
 put_back j k l p q = record { tables = q.tables ∙ p.tables; pins = q.pins ∙ p.pins; closed = q.closed }
 
 committed : (k : Card) (z : Event) → Commits k z → PutBack k (next k z)
-committed k z c = let (s, t) = commits-taken k z c in rw (moves k z s D.Committed t) (at-commit k s)
-
-others-stay : (k : Card) (s : List ℕ) → ((after k s D.Committed).cells.session ≡ k.cells.session) × ((after k s D.Committed).cells.pins ≡ k.cells.pins)
-unfolding apply
-others-stay k s = (refl, refl)
-
-begun-tables : (k : Card) (s : List ℕ) → (after k s D.Began).cells.tables ≡ k.cells.tables
-unfolding apply
-begun-tables k s = refl
+unfolding apply obey
+committed k z c = let (s, t) = commits-taken k z c in rw (moves k z s D.Committed t) (record { tables = refl; pins = refl; closed = refl })
 
 begun : (k : Card) (e : Event) → Begins k e → (next k e).cells.tables ≡ k.cells.tables
-begun k e b = let (s, t) = begins-taken k e b in rw (moves k e s D.Began t) (begun-tables k s)
+unfolding apply
+begun k e b = let (s, t) = begins-taken k e b in rw (moves k e s D.Began t) refl
 
 others : (k : Card) (z : Event) → Commits k z → ((next k z).cells.session ≡ k.cells.session) × ((next k z).cells.pins ≡ k.cells.pins)
-others k z c = let (s, t) = commits-taken k z c in rw (moves k z s D.Committed t) (others-stay k s)
+unfolding apply
+others k z c = let (s, t) = commits-taken k z c in rw (moves k z s D.Committed t) (refl, refl)
 
 ended-after : (k : Card) (y : Event) → k.cells.undo.live ≡ false → Abandons k y → PutBack k (next k y)
 ended-after k y o a =
@@ -172,31 +160,13 @@ ended-after k y o a =
     rw (moves k y s d t) (at_none k y s d o (decision-fits k y s d t) x)
 
 -- with none open a reset keeps the PINs
-record SamePins (k : Card) (r : Reply) : Type 0 where
-  pins : r.card.vault.live ≡ k.vault.live
-
-kept : (k : Card) (n : ℕ) → SamePins k (record { number = n; card = k; bytes = [] })
-kept k n = record { pins = refl }
-
-given-up : (k : Card) (c : Cells) → k.cells.undo.live ≡ false → SamePins k (record { number = 0; card = reset_to k c; bytes = [] })
-given-up k c o = record { pins = (settled-none k o).1 }
-
-either : (k : Card) (b : Bool) (x y : Reply) → SamePins k x → SamePins k y → SamePins k (cond b x y)
-either k true x y f g = f
-either k false x y f g = g
-
-power-pins : (k : Card) → k.cells.undo.live ≡ false → SamePins k (power k)
-unfolding power
-power-pins k o = search (either, kept, given-up)
-
-reset-pins : (k : Card) → k.cells.undo.live ≡ false → SamePins k (reset k)
-unfolding reset
-reset-pins k o = search (either, kept, given-up)
+abbrev SamePins : Card → Reply → Type 0
+SamePins k r = r.card.vault.live ≡ k.vault.live
 
 resets-pins : (k : Card) (y : Event) → k.cells.undo.live ≡ false → Resets k y → (next k y).vault.live ≡ k.vault.live
 unfolding next
-resets-pins k y o (inl h) = rw h (power-pins k o).pins
-resets-pins k y o (inr h) = rw h.0 (reset-pins k o).pins
+resets-pins k y o (inl h) = rw h (power-ind (SamePins k) k (λ _. refl) (settled-none k o).1)
+resets-pins k y o (inr h) = rw h.0 (reset-ind (SamePins k) k (λ _. refl) (settled-none k o).1)
 
 pub commit-keeps : CommitKeeps
 commit-keeps = record {
@@ -223,12 +193,9 @@ tries-stay c d (inr (inr h)) = rw h refl
 tries-outlive : (k : Card) (z : Event) → Abandons k z → (next k z).cells.pins ≡ k.cells.pins
 tries-outlive k z a = let (d, (s, t), x) = abandons-taken k z a in rw (moves k z s d t) (tries-stay k.cells d x)
 
-session-stays : (k : Card) (s : List ℕ) → (after k s D.Abandoned).cells.session ≡ k.cells.session
-unfolding apply
-session-stays k s = refl
-
 proved-outlives : (k : Card) (z : Event) → k.cells.undo.live ≡ true → Sends k z P.Abandon → (next k z).cells.session ≡ k.cells.session
-proved-outlives k z o i = let (s, t) = abandon-taken k z i o in rw (moves k z s D.Abandoned t) (session-stays k s)
+unfolding apply
+proved-outlives k z o i = let (s, t) = abandon-taken k z i o in rw (moves k z s D.Abandoned t) refl
 
 -- ---- the resets and the media go by what stands when it is given up
 pub power-card : (k : Card) → sound k ≡ true → (power k).card ≡ reset_to k (power_cycle k.cells)
@@ -241,7 +208,7 @@ reset-card k h g = rw (h, g) refl
 
 reset-number : (k : Card) → sound k ≡ true → (reset k).number ≡ cond (not (settled_tables k.cells).resettable) 7 0
 unfolding reset
-reset-number k h = simp (h, number_of)
+reset-number k h = simp (h, of_cond (λ (r : Reply). r.number))
 
 enabled : (b : Bool) → ◌≡◌ {A = ℕ} (cond (not b) 7 0) 0 → b ≡ true
 enabled true h = refl
@@ -275,47 +242,41 @@ media-stands : (j k : Card) (write : Bool) (start count : ℕ) → Stands j k �
 unfolding media
 media-stands j k write start count s = rw (s.first, s.now, s.tables, s.size) refl
 
-module _ (steps : (k : Card) (e : Event) → sound k ≡ true → sound (next k e) ≡ true) where
-  sound-run : (k : Card) (es : List Event) → sound k ≡ true → sound (run k es) ≡ true
-  unfolding run
-  sound-run k [] h = h
-  sound-run k (e ∷ es) h = sound-run (next k e) es (steps k e h)
+stands : (k : Card) (e : Event) (es : List Event) → Transaction k e es → Stands k (within k e es)
+stands k e es t =
+    let i = settled-open k (within k e es) (in-it k e es t) in
+    let o = settled-none k t.begins.1 in
+    record {
+      first = t.sound;
+      now = is_true _ (sound-decides _) (run_sound (next k e) es (next-sound k e ((sound-decides k).holds t.sound)));
+      tables = i.0 ∙ sym o.0;
+      pins = i.1;
+      size = (in-it k e es t).size;
+    }
 
-  stands : (k : Card) (e : Event) (es : List Event) → Transaction k e es → Stands k (within k e es)
-  stands k e es t =
-      let i = settled-open k (within k e es) (in-it k e es t) in
-      let o = settled-none k t.begins.1 in
-      record {
-        first = t.sound;
-        now = sound-run (next k e) es (steps k e t.sound);
-        tables = i.0 ∙ sym o.0;
-        pins = i.1;
-        size = (in-it k e es t).size;
-      }
+pub abandon-puts-back : AbandonPutsBack
+abandon-puts-back = record {
+  abandoned = λ k e es z t a. abandoned k (within k e es) z (in-it k e es t) a;
+  tries = λ k e es z t a. tries-outlive (within k e es) z a;
+  proved = λ k e es z t i. proved-outlives (within k e es) z (in-it k e es t).live i;
+  by_power = λ k e es t. power-stands k (within k e es) (stands k e es t);
+  by_reset = λ k e es t z. reset-stands k (within k e es) (stands k e es t) z;
+}
 
-  pub abandon-puts-back : AbandonPutsBack
-  abandon-puts-back = record {
-    abandoned = λ k e es z t a. abandoned k (within k e es) z (in-it k e es t) a;
-    tries = λ k e es z t a. tries-outlive (within k e es) z a;
-    proved = λ k e es z t i. proved-outlives (within k e es) z (in-it k e es t).live i;
-    by_power = λ k e es t. power-stands k (within k e es) (stands k e es t);
-    by_reset = λ k e es t z. reset-stands k (within k e es) (stands k e es t) z;
-  }
+verdict : (k : Card) (write : Bool) (start count : ℕ) → sound k ≡ true → k.cells.undo.live ≡ false → let t = k.cells.tables in
+    media k write start count ≡ Some (media_of t.rows t.mbr t.active k.cells.n write start count)
+unfolding media
+verdict k write start count h o = rw (h, o) refl
 
-  verdict : (k : Card) (write : Bool) (start count : ℕ) → sound k ≡ true → k.cells.undo.live ≡ false → let t = k.cells.tables in
-      media k write start count ≡ Some (media_of t.rows t.mbr t.active k.cells.n write start count)
-  unfolding media
-  verdict k write start count h o = rw (h, o) refl
+asks : (k : Card) (write : Bool) (start count : ℕ) → next k (asked write start count) ≡ k
+unfolding next
+asks k write start count = refl
 
-  asks : (k : Card) (write : Bool) (start count : ℕ) → next k (asked write start count) ≡ k
-  unfolding next
-  asks k write start count = refl
-
-  pub nothing-shows : NothingShows
-  nothing-shows = record {
-    verdict = verdict;
-    media = λ k e es write start count t. media-stands k (within k e es) write start count (stands k e es t);
-    number = λ k e es t. number-stands k (within k e es) (stands k e es t);
-    asks = asks;
-    begins = begun;
-  }
+pub nothing-shows : NothingShows
+nothing-shows = record {
+  verdict = verdict;
+  media = λ k e es write start count t. media-stands k (within k e es) write start count (stands k e es t);
+  number = λ k e es t. number-stands k (within k e es) (stands k e es t);
+  asks = asks;
+  begins = begun;
+}

@@ -1,14 +1,13 @@
 -- A session that is opened takes the next TSN, and nothing else uses one.
-use Prim.Native.Nat.{ℕ, ◌+◌, ◌≤◌, ◌<◌}
+use Prim.Native.Nat.{◌≤◌, ◌<◌}
 use mathlib.Core.Path.{◌≡◌, refl, ◌∙◌, ap}
-use mathlib.Core.Bool.{true, false, not}
+use mathlib.Core.Bool.{true, false}
 use mathlib.Core.List.{List, [], ◌∷◌}
 use mathlib.Core.Logic.{◌≢◌}
 use native.Mathlib.Omega.{arith}
 use borrow.Author.Tests.{lt-ltb, le-ltb, ltb-true}
 use lib.Dec.{ltb}
-use Rattle.model.specs.Types.{Tsn, Cells, Card, Who, Change, Decision}
-use Rattle.model.specs.declared.Who.TheVariants as W
+use Rattle.model.specs.Types.{Tsn, Cells, Card, Change, Decision}
 use Rattle.model.specs.declared.Change.TheVariants as C
 use Rattle.model.specs.declared.Decision.TheVariants as D
 use Rattle.model.specs.Record as R
@@ -20,12 +19,15 @@ use Rattle.model.specs.Laws.{SoundRecord}
 use Rattle.model.specs.Resets.{NewSession, TsnsRun, ResetsAsSaid}
 use Rattle.ranges.proofs.Decide.{is_true}
 use Rattle.model.proofs.Soundness.{sound-decides}
-use Rattle.model.proofs.Cases.{cond_ind}
+use Rattle.model.proofs.Cases.{cond_ind, never}
 use Rattle.model.proofs.Legal.{Legal, FairHeard, fair-decided}
 use Rattle.model.proofs.Legal as L
 use Rattle.model.proofs.Walked.{heard-fair}
-use Rattle.model.proofs.Reached.{never, next-sound, factory-sound, run_sound}
+use Rattle.model.proofs.Reached.{next-sound, factory-sound, run_sound}
 use Rattle.model.proofs.Restarted.{power-cycles, tper-resets}
+use Rattle.model.proofs.Moves.{cleared-tries}
+use Rattle.std.proofs.lemmas.Bool.{cond-true, cond-false}
+use Rattle.model.proofs.Heard.{reset-ind}
 
 -- the cells c, and d after an event that is no power cycle
 data Numbered (c d : Cells) : Type 0 where
@@ -35,13 +37,6 @@ data Numbered (c d : Cells) : Type 0 where
   closes : d.session.live ≡ false → d.next ≡ c.next → Numbered c d
 
 module _ (c : Cells) where
-  cleared-next : (w : Who) → (A.cleared c w).next ≡ c.next
-  unfolding A.cleared
-  cleared-next W.Unknown = refl
-  cleared-next W.Anybody = refl
-  cleared-next W.Class = refl
-  cleared-next (W.Row r) = refl
-
   by-change : (x : Change) → Numbered c (A.change c x)
   unfolding A.change
   by-change C.Nothing = keeps refl refl refl refl refl
@@ -63,7 +58,7 @@ module _ (c : Cells) where
   by-decision (D.Started locking hsn w) f = opens f.0 refl refl refl
   by-decision D.Denied f = keeps refl refl refl refl refl
   by-decision (D.Mistaken r) f = keeps refl refl refl refl refl
-  by-decision (D.Proved w) f = keeps refl refl refl refl (cleared-next w)
+  by-decision (D.Proved w) f = keeps refl refl refl refl (ap (λ x. x.next) (cleared-tries c w))
   by-decision (D.Told o first last) f = keeps refl refl refl refl refl
   by-decision (D.Done x) f = by-change x
   by-decision D.Began f = keeps refl refl refl refl refl
@@ -79,25 +74,14 @@ unfolding Z.reply_to
 by-heard k L.away = keeps refl refl refl refl refl
 by-heard k (L.taken {s = s} f) = by-decision k.cells _ (fair-decided k.cells k.vault s f)
 
-abbrev After : Card → Z.Reply → Type 0
-After k x = Numbered k.cells x.card.cells
-
 by-event : (k : Card) (e : Event) → e ≢ powered → Numbered k.cells (next k e).cells
-unfolding next Z.reset
+unfolding next
 by-event k (packet room s) n = by-heard k (heard-fair k room s)
 by-event k powered n = absurd (n refl)
-by-event k was_reset n =
-    cond_ind (After k) (not (sound k)) _ _ (λ _. keeps refl refl refl refl refl) λ _.
-    cond_ind (After k) (not (A.settled_tables k.cells).resettable) _ _ (λ _. keeps refl refl refl refl refl) (λ _. closes refl refl)
+by-event k was_reset n = reset-ind (λ (x : Z.Reply). Numbered k.cells x.card.cells) k (λ _. keeps refl refl refl refl refl) (closes refl refl)
 by-event k (asked write start count) n = keeps refl refl refl refl refl
 
 -- ---- so the numbers are as document 01 says
-one_more : (x : Tsn) → x.0 < 0xffffffff → (A.next_tsn x).0 ≡ x.0 + 1
-one_more x l = rw (lt-ltb _ _ l) refl
-
-then_one : (x : Tsn) → 0xffffffff ≤ x.0 → (A.next_tsn x).0 ≡ 1
-then_one x l = rw (le-ltb _ _ l) refl
-
 -- no session was opened
 shut : (k : Card) (e : Event) → (NewSession k e → ⊥) → (e ≢ powered → (next k e).cells.next ≡ k.cells.next)
     → (k.cells.session.live ≡ true → (next k e).cells.session.live ≡ true
@@ -115,8 +99,8 @@ shut k e none stays same = record {
 by-numbers : (k : Card) (e : Event) → Numbered k.cells (next k e).cells → TsnsRun k e
 by-numbers k e (opens none live tsn more) = record {
   opened = λ _. ap (λ (x : Tsn). x.0) tsn;
-  one_more = λ _ l. ap (λ (x : Tsn). x.0) more ∙ one_more k.cells.next l;
-  then_one = λ _ l. ap (λ (x : Tsn). x.0) more ∙ then_one k.cells.next l;
+  one_more = λ _ l. ap (λ (x : Tsn). x.0) more ∙ cond-true _ _ _ (lt-ltb k.cells.next.0 _ l);
+  then_one = λ _ l. ap (λ (x : Tsn). x.0) more ∙ cond-false _ _ _ (le-ltb k.cells.next.0 _ l);
   else = λ n _. absurd (n (none, live));
   same = λ l _. never none l;
 }
@@ -130,10 +114,10 @@ powered-numbers k h =
 
 -- an event is a power cycle or none
 by_kind : (P : Event → Type 0) → P powered → ((e : Event) → e ≢ powered → P e) → (e : Event) → P e
-by_kind P p f (packet room s) = f _ (λ q. let z : ◌≡◌ {A = ℕ} 0 1 = cc in omega arith)
+by_kind P p f (packet room s) = f _ (λ q. cc)
 by_kind P p f powered = p
-by_kind P p f was_reset = f _ (λ q. let z : ◌≡◌ {A = ℕ} 0 1 = cc in omega arith)
-by_kind P p f (asked write start count) = f _ (λ q. let z : ◌≡◌ {A = ℕ} 0 1 = cc in omega arith)
+by_kind P p f was_reset = f _ (λ q. cc)
+by_kind P p f (asked write start count) = f _ (λ q. cc)
 
 numbers : (k : Card) (e : Event) → sound k ≡ true → TsnsRun k e
 numbers k e h = by_kind (TsnsRun k) (powered-numbers k h) (λ z n. by-numbers k z (by-event k z n)) e

@@ -1,12 +1,12 @@
 -- What is turned away by number leaves the record and the answer untouched.
 use Prim.Native.Nat.{ℕ}
 use mathlib.Core.Path.{◌≡◌, refl}
-use mathlib.Core.Bool.{Bool, true, false, cond}
 use mathlib.Core.List.{[]}
 use mathlib.Core.Logic.{◌≢◌}
 use Rattle.model.specs.Types.{Card}
 use Rattle.model.specs.Step.{Heard, turned, judged, Reply, reply_to, heard, power, reset}
 use Rattle.model.specs.Laws.{TurnedAway}
+use Rattle.model.proofs.Cases.{whichever}
 
 -- a reply by number keeps the record and has no bytes
 record Keeps (k : Card) (r : Reply) : Type 0 where
@@ -19,10 +19,6 @@ kept k n = record { card = λ z. refl; bytes = λ z. refl }
 answered : (k : Card) (r : Reply) → r.number ≡ 0 → Keeps k r
 answered k r e = record { card = λ z. absurd (z e); bytes = λ z. absurd (z e) }
 
-either : (k : Card) (b : Bool) (x y : Reply) → Keeps k x → Keeps k y → Keeps k (cond b x y)
-either k true x y f g = f
-either k false x y f g = g
-
 by-heard : (k : Card) (h : Heard) → Keeps k (reply_to k h)
 unfolding reply_to
 by-heard k (turned n) = kept k n
@@ -30,11 +26,11 @@ by-heard k (judged tsn hsn s j) = answered k _ refl
 
 by_power : (k : Card) → Keeps k (power k)
 unfolding power
-by_power k = search (either, kept, answered)
+by_power k = search (whichever (Keeps k), kept, answered)
 
 by_reset : (k : Card) → Keeps k (reset k)
 unfolding reset
-by_reset k = search (either, kept, answered)
+by_reset k = search (whichever (Keeps k), kept, answered)
 
 pub reset-keeps : (k : Card) → (reset k).number ≢ 0 → (reset k).card ≡ k
 reset-keeps k = (by_reset k).card

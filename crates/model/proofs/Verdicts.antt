@@ -1,7 +1,7 @@
 -- The signs of PINs: what was compared with what, and how that was answered.
 use Prim.Native.Nat.{ℕ}
 use mathlib.Core.Path.{◌≡◌, refl, sym, ◌∙◌, ap}
-use mathlib.Core.Bool.{Bool, true, false, cond}
+use mathlib.Core.Bool.{Bool, cond}
 use mathlib.Core.List.{List}
 use mathlib.Core.Logic.{◌≢◌}
 use lib.Dec.{eqb}
@@ -18,7 +18,7 @@ use Rattle.model.specs.Seen as E
 use Rattle.model.specs.Signs as S
 use Rattle.model.specs.Signs.{Unasked, SignsOfPins}
 use Rattle.model.proofs.Faults.{same-decides}
-use Rattle.model.proofs.Came.{unasked}
+use Rattle.model.proofs.Cases.{whichever}
 
 -- ---- where a PIN is compared
 abbrev Verdict : Card → ℕ → List ℕ → E.Answered → Type 0
@@ -26,8 +26,8 @@ Verdict k r p a = (b : Bool) × (a ≡ E.said b) × Decides b (S.pin k r ≡ p)
 
 verdict-of : (k : Card) (x : Z.Heard) (r : ℕ) (p : List ℕ) → S.query_in x ≡ S.row r p → Verdict k r p (E.of_heard k x)
 unfolding S.query_in S.query_of E.of_heard E.of_judged
-verdict-of k (Z.turned n) r p e = unasked r p e
-verdict-of k (Z.judged tsn hsn s (Settled d)) r p e = unasked r p e
+verdict-of k (Z.turned n) r p e = absurd cc
+verdict-of k (Z.judged tsn hsn s (Settled d)) r p e = absurd cc
 verdict-of k (Z.judged tsn hsn s (Compare q at n equal differs)) r p e =
     let u : q ≡ r = cc in
     let v : Y.part s at n ≡ p = cc in
@@ -36,16 +36,16 @@ verdict-of k (Z.judged tsn hsn s (Compare q at n equal differs)) r p e =
 verdict : (k : Card) (e : Event) (r : ℕ) (p : List ℕ) → S.query k e ≡ S.row r p → Verdict k r p (E.answered k e)
 unfolding S.query E.answered
 verdict k (packet room s) r p e = verdict-of k (Z.heard k room s) r p e
-verdict k powered r p e = unasked r p e
-verdict k was_reset r p e = unasked r p e
-verdict k (asked write start count) r p e = unasked r p e
+verdict k powered r p e = absurd cc
+verdict k was_reset r p e = absurd cc
+verdict k (asked write start count) r p e = absurd cc
 
 signed : (k : Card) (e : Event) (r : ℕ) (p : List ℕ) → S.query k e ≡ S.row r p → S.sign k e ≡ S.compared k.cells.session.live r (E.answered k e)
 unfolding S.query S.sign S.packet_sign
 signed k (packet room s) r p e = rw e refl
-signed k powered r p e = unasked r p e
-signed k was_reset r p e = unasked r p e
-signed k (asked write start count) r p e = unasked r p e
+signed k powered r p e = absurd cc
+signed k was_reset r p e = absurd cc
+signed k (asked write start count) r p e = absurd cc
 
 right : (k : Card) (e : Event) (r : ℕ) → S.query k e ≡ S.row r (S.pin k r) → S.sign k e ≡ cond k.cells.session.live (S.proves r) (S.enters r)
 unfolding S.compared
@@ -97,15 +97,11 @@ unfolding S.taken_sign
 of-taken E.nothing = tt
 of-taken (E.took s d) = of-decision s d
 
-of-reset : (b : Bool) → Unasked (cond b S.ends S.idles)
-of-reset true = tt
-of-reset false = tt
-
 not-compared : (k : Card) (e : Event) → S.query k e ≡ S.none → Unasked (S.sign k e)
 unfolding S.sign S.packet_sign
 not-compared k (packet room s) e = rw e (of-taken (E.taken k (packet room s)))
 not-compared k powered e = tt
-not-compared k was_reset e = of-reset (eqb (Z.reset k).number 0)
+not-compared k was_reset e = whichever Unasked (eqb (Z.reset k).number 0) S.ends S.idles tt tt
 not-compared k (asked write start count) e = tt
 
 pub signs-of-pins : SignsOfPins

@@ -1,13 +1,13 @@
 -- The walk: whatever is decided of a packet is legal where it is decided.
+use Rattle.std.proofs.lemmas.Bool.{and_parts}
 use Rattle.std.specs.Prelude.{Option, Some, None, Result, Ok, Err}
 use Prim.Native.Nat.{ℕ, ◌<◌}
-use mathlib.Core.Path.{◌≡◌, refl, sym}
-use mathlib.Core.Bool.{Bool, true, false, ◌&&◌, cond, true≢false}
+use mathlib.Core.Path.{◌≡◌, refl}
+use mathlib.Core.Bool.{Bool, true, false, ◌&&◌}
 use mathlib.Core.List.{List}
 use borrow.Author.Tests.{ltb-true, leb-true, not-true}
 use native.Mathlib.Omega.{arith}
 use lib.Dec.{eqb}
-use Rattle.packet.specs.declared.Packet.{Packet}
 use Rattle.payload.specs.declared.Payload.{Payload}
 use Rattle.payload.specs.declared.Payload.TheVariants as P
 use Rattle.value.specs.Value.{Values}
@@ -20,22 +20,18 @@ use Rattle.params.specs.declared.Block.{Block}
 use Rattle.params.specs.declared.Start.{Start}
 use Rattle.params.specs.declared.Proof.{Proof}
 use Rattle.params.specs.Columns.{column_at}
-use Rattle.ranges.specs.Decides.{imp}
-use Rattle.model.specs.Types.{Tsn, Hsn, Cells, Card, Object, Who, Change}
+use Rattle.model.specs.Types.{Cells, Card, Object, Who, Change}
 use Rattle.model.specs.declared.Who.TheVariants as W
-use Rattle.model.specs.declared.Change.TheVariants as C
-use Rattle.model.specs.declared.Decision.TheVariants as D
 use Rattle.model.specs.Record as R
 use Rattle.model.specs.Uids as U
 use Rattle.model.specs.Judge as J
 use Rattle.model.specs.Step as Z
 use Rattle.model.proofs.Legal as L
-use Rattle.model.proofs.Cases.{cond_ind, both}
+use Rattle.model.proofs.Cases.{cond_ind, whichever}
 use Rattle.model.proofs.Legal.{KnownWho, LegalChange, Legal, Fair, surely, either, FairHeard, away, taken, Placed, need-ind}
-
-pub implies : (a b : Bool) → imp a b ≡ true → a ≡ true → b ≡ true
-implies true b e h = e
-implies false b e h = absurd (true≢false (sym h))
+use Rattle.ranges.proofs.Decide.{dec-imp}
+use Rattle.model.proofs.Soundness.{dec-on}
+use Rattle.model.proofs.Heard.{manager-ind, packet-ind, heard-ind}
 
 -- ---- PINs
 judge-who : (c : Cells) {locking : Bool} (e : J.Ends) {w : Who} (x : Slot) → KnownWho locking w → Legal c e.barred → Legal c e.full
@@ -60,21 +56,12 @@ judge-start c s (Some t) none =
     need-ind (Fair c) _ _ _ (surely tt) λ _. need-ind (Fair c) _ _ _ (surely tt) λ on. need-ind (Fair c) _ _ _ (surely tt) λ _.
     need-ind (Fair c) _ _ _ (surely tt) λ _. need-ind (Fair c) _ _ _ (surely tt) λ _. need-ind (Fair c) _ _ _ (surely tt) λ _.
     judge-who c _ challenge (L.signer-known s (eqb sp U.locking_sp) authority) tt tt (λ r h. h)
-    (λ v k. (none, implies (eqb sp U.locking_sp) c.tables.active on, k))
+    (λ v k. (none, (dec-imp (eqb sp U.locking_sp) _ (dec-on _) (dec-on _)).holds on, k))
 
 judge-manager : (c : Cells) (s : List ℕ) (object method : ℕ) (vs : Out Values) → Fair c (J.judge_manager c s object method vs)
 unfolding J.judge_manager
 judge-manager c s object method vs =
     need-ind (Fair c) _ _ _ (surely tt) λ _. need-ind (Fair c) _ _ _ (surely tt) λ none. judge-start c s _ (not-true _ none)
-
-hear-manager : (c : Cells) (tsn : Tsn) (hsn : Hsn) (s : List ℕ) (p : Payload) → FairHeard c (Z.hear_manager c tsn hsn s p)
-unfolding Z.hear_manager
-hear-manager c tsn hsn s (P.Call object method params) = taken (judge-manager c s object method _)
-hear-manager c tsn hsn s P.EndSession = away
-hear-manager c tsn hsn s P.Begin = away
-hear-manager c tsn hsn s P.Commit = away
-hear-manager c tsn hsn s P.Abandon = away
-hear-manager c tsn hsn s P.Broken = away
 
 -- ---- what a Set changes
 pin-legal : (c : Cells) (r : ℕ) (x : Slot) → r < R.pin_count → J.is_pin x ≡ true → LegalChange c (J.pin_change r x)
@@ -92,7 +79,7 @@ flag-legal c f (Some on) h = h on
 
 range-legal : (a b d e f g h i : Bool) → (a && (b && (d && (e && (f && (g && (h && i))))))) ≡ true → i ≡ true
 range-legal a b d e f g h i t =
-    (both h i (both g _ (both f _ (both e _ (both d _ (both b _ (both a _ t).1).1).1).1).1).1).1
+    (and_parts h i (and_parts g _ (and_parts f _ (and_parts e _ (and_parts d _ (and_parts b _ (and_parts a _ t).1).1).1).1).1).1).1
 
 change-legal : (c : Cells) (s : List ℕ) (t : Columns) {locking : Bool} {o : Object} → Placed locking o → J.values_ok c s t o ≡ true
     → LegalChange c (J.change_in s t o)
@@ -156,11 +143,7 @@ module _ (c : Cells) (live : c.session.live ≡ true) where
 
   activate-legal : c.undo.live ≡ false → LegalChange c (J.activate_on c.tables)
   unfolding J.activate_on
-  activate-legal none = pick c.tables.active
-    where
-      pick : (on : Bool) → LegalChange c (cond on C.Nothing C.Activate)
-      pick true = tt
-      pick false = none
+  activate-legal none = whichever (LegalChange c) c.tables.active _ _ tt none
 
   judge-method : (s : List ℕ) {o : Object} (m : ℕ) (vs : Out Values) → Placed c.session.locking o → Fair c (J.judge_method c s o m vs)
   unfolding J.judge_method
@@ -176,38 +159,16 @@ module _ (c : Cells) (live : c.session.live ≡ true) where
   unfolding Z.judge_session
   judge-session s (P.Call object method params) = judge-method s _ _ (L.object-placed c.session.locking object)
   judge-session s P.EndSession = surely live
-  judge-session s P.Begin = surely (begun c.undo.live refl)
-    where
-      begun : (b : Bool) → c.undo.live ≡ b → Legal c (cond b D.BeganAlready D.Began)
-      begun true e = tt
-      begun false e = (live, e)
-  judge-session s P.Commit = surely (done c.undo.live refl)
-    where
-      done : (b : Bool) → c.undo.live ≡ b → Legal c (cond b D.Committed D.NoneOpen)
-      done true e = e
-      done false e = tt
-  judge-session s P.Abandon = surely (done c.undo.live refl)
-    where
-      done : (b : Bool) → c.undo.live ≡ b → Legal c (cond b D.Abandoned D.NoneOpen)
-      done true e = e
-      done false e = tt
+  judge-session s P.Begin = surely (cond_ind (Legal c) c.undo.live _ _ (λ _. tt) (λ e. (live, e)))
+  judge-session s P.Commit = surely (cond_ind (Legal c) c.undo.live _ _ (λ e. e) (λ _. tt))
+  judge-session s P.Abandon = surely (cond_ind (Legal c) c.undo.live _ _ (λ e. e) (λ _. tt))
   judge-session s P.Broken = surely live
 
 -- ---- a packet
-hear-packet : (c : Cells) (s : List ℕ) (p : Option Packet) → FairHeard c (Z.hear_packet c s p)
-unfolding Z.hear_packet
-hear-packet c s (Some p) =
-    let tsn = p.tsn in
-    let hsn = p.hsn in
-    cond_ind (FairHeard c) (Z.is_manager tsn hsn) _ _ (λ _. hear-manager c tsn hsn _ _) λ _.
-    cond_ind (FairHeard c) (Z.is_session c.session tsn hsn) _ _ (λ e. taken (judge-session c (both c.session.live _ e).0 _ _)) (λ _. away)
-hear-packet c s None = away
-
--- whatever the test
-heard-either : (c : Cells) (b : Bool) (x y : Z.Heard) → FairHeard c x → FairHeard c y → FairHeard c (cond b x y)
-heard-either c true x y f g = f
-heard-either c false x y f g = g
-
 pub heard-fair : (k : Card) (room : ℕ) (s : List ℕ) → FairHeard k.cells (Z.heard k room s)
-unfolding Z.heard
-heard-fair k room s = search (heard-either, away, hear-packet)
+heard-fair k room s =
+    let F = FairHeard k.cells in
+    heard-ind F (λ _ _. away) k room s λ _ _ _.
+    packet-ind F (λ _ _. away) k.cells s _
+    (λ p _ _. manager-ind F (λ _ _. away) k.cells p.tsn p.hsn _ _ (λ object method params _. taken (judge-manager k.cells _ object method _)))
+    (λ p _ e. taken (judge-session k.cells (and_parts k.cells.session.live _ e).0 _ _))

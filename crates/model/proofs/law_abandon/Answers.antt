@@ -1,7 +1,6 @@
 -- `law_abandon` holds.
-use Rattle.model.proofs.SoundStep.{sound-step}
 use Rattle.model.proofs.Transactions.{abandon-puts-back}
 use Rattle.model.proofs.law_abandon.Goals as goal
 
 pub returns : goal.returns
-returns c = abandon-puts-back sound-step
+returns c = abandon-puts-back

@@ -1,5 +1,5 @@
 -- Only an authority with a PIN row is marked as proved.
-use Rattle.std.proofs.Common.{◌≡◌, ◌≤◌, ℕ, List, Bool, true, length, refl, sym, rules, arith}
+use Rattle.std.proofs.Common.{◌≡◌, ◌≤◌, ℕ, List, Bool, true, length, refl, rules, arith}
 use lib.Seq.{set_out}
 use Rattle.model.specs.declared.Who.{Who}
 use Rattle.model.specs.declared.Who.TheVariants as W
