@@ -8,7 +8,7 @@ ghost use Rattle.packet.specs.Envelope.{seal_end, seal_all};
 ghost use Rattle.card.specs.Hear.{hear_at};
 
 use model::{Card, Cells, Decision, Judged, Outcome, Session};
-use packet::{Hsn, Tsn};
+use packet::{Hsn, Packet, Tsn};
 use payload::Payload;
 use ranges::Verdict;
 
@@ -43,28 +43,29 @@ fn frame(answer: &mut [u8], tsn: Tsn, hsn: Hsn, n: usize) -> usize
 }
 
 // The whole answer, envelope and all: "a CloseSession call on 0, 0; else an answer carries its request's TSN and HSN".
-fn write_answer(answer: &mut [u8], tsn: Tsn, hsn: Hsn, c: Cells, d: Decision) -> usize
+// stays a slice with its length required: with `first_chunk_mut` the four `requires` go, but the proof of `command` did not close.
+fn write_answer(answer: &mut [u8], packet: Packet, c: Cells, d: Decision) -> usize
     requires { 2048 ≤ length answer.old }
-    ensures count { result ≡ length (framed c tsn hsn d) }
-    ensures buffer { answer.new ≡ framed c tsn hsn d ++ drop (length (framed c tsn hsn d)) answer.old }
+    ensures count { result ≡ length (framed c packet.tsn packet.hsn d) }
+    ensures buffer { answer.new ≡ framed c packet.tsn packet.hsn d ++ drop (length (framed c packet.tsn packet.hsn d)) answer.old }
 {
     let n = answer::answer(answer, c, d);
     if is_broke(d) {
         return frame(answer, Tsn(0), Hsn(0), n);
     }
-    frame(answer, tsn, hsn, n)
+    frame(answer, packet.tsn, packet.hsn, n)
 }
 
 // A request that is judged: the PIN is compared where one must be, the answer written, and the decision carried out.
 #[tactic(auto, unfolding(model::specs::Step::reply_to))]
-fn settle(card: Card, s: &[u8], answer: &mut [u8], tsn: Tsn, hsn: Hsn, j: Judged) -> Outcome
+fn settle(card: Card, s: &[u8], answer: &mut [u8], packet: Packet, j: Judged) -> Outcome
     requires { 2048 ≤ length answer.old }
-    ensures outcome { result ≡ outcome_of (reply_to card (judged tsn hsn s.now j)) }
-    ensures buffer { answer.new ≡ buffer_of (reply_to card (judged tsn hsn s.now j)) answer.old }
+    ensures outcome { result ≡ outcome_of (reply_to card (judged packet.tsn packet.hsn s.now j)) }
+    ensures buffer { answer.new ≡ buffer_of (reply_to card (judged packet.tsn packet.hsn s.now j)) answer.old }
 {
     let c = card.cells;
     let d = vault::decided(card.vault, s, j);
-    let count = write_answer(answer, tsn, hsn, c, d);
+    let count = write_answer(answer, packet, c, d);
     let cells = apply::apply(c, d);
     let vault = vault::obey(card.vault, c.msid, c.undo.live, s, d);
     Outcome {
@@ -76,10 +77,10 @@ fn settle(card: Card, s: &[u8], answer: &mut [u8], tsn: Tsn, hsn: Hsn, j: Judged
 
 // On 0, 0: a call, or number 6.
 #[tactic(auto, unfolding(model::specs::Step::hear_manager, model::specs::Step::reply_to))]
-fn hear_manager(card: Card, s: &[u8], answer: &mut [u8], tsn: Tsn, hsn: Hsn, p: Payload) -> Outcome
+fn hear_manager(card: Card, s: &[u8], answer: &mut [u8], packet: Packet, p: Payload) -> Outcome
     requires { 2048 ≤ length answer.old }
-    ensures outcome { result ≡ outcome_of (reply_to card (hear_manager card.cells tsn hsn s.now p)) }
-    ensures buffer { answer.new ≡ buffer_of (reply_to card (hear_manager card.cells tsn hsn s.now p)) answer.old }
+    ensures outcome { result ≡ outcome_of (reply_to card (hear_manager card.cells packet.tsn packet.hsn s.now p)) }
+    ensures buffer { answer.new ≡ buffer_of (reply_to card (hear_manager card.cells packet.tsn packet.hsn s.now p)) answer.old }
 {
     let Payload::Call {
         object,
@@ -90,35 +91,35 @@ fn hear_manager(card: Card, s: &[u8], answer: &mut [u8], tsn: Tsn, hsn: Hsn, p: 
         return turned_away(card, 6);
     };
     let j = judge::judge_manager(card.cells, s, object, method, params);
-    settle(card, s, answer, tsn, hsn, j)
+    settle(card, s, answer, packet, j)
 }
 
-fn is_manager(tsn: Tsn, hsn: Hsn) -> bool
-    ensures { result ≡ is_manager tsn hsn }
+fn is_manager(packet: Packet) -> bool
+    ensures { result ≡ is_manager packet.tsn packet.hsn }
 {
-    tsn.0 == 0 && hsn.0 == 0
+    packet.tsn.0 == 0 && packet.hsn.0 == 0
 }
 
-fn is_session(x: Session, tsn: Tsn, hsn: Hsn) -> bool
-    ensures { result ≡ is_session x tsn hsn }
+fn is_session(x: Session, packet: Packet) -> bool
+    ensures { result ≡ is_session x packet.tsn packet.hsn }
 {
-    x.live && x.tsn.0 == tsn.0 && x.hsn.0 == hsn.0
+    x.live && x.tsn.0 == packet.tsn.0 && x.hsn.0 == packet.hsn.0
 }
 
 // A packet whose envelope is good; its payload reaches to the end of s.
 #[tactic(auto, unfolding(model::specs::Step::reply_to))]
-fn hear(card: Card, s: &[u8], answer: &mut [u8], tsn: Tsn, hsn: Hsn, start: usize) -> Outcome
+fn hear(card: Card, s: &[u8], answer: &mut [u8], packet: Packet) -> Outcome
     requires { 2048 ≤ length answer.old }
-    ensures outcome { result ≡ outcome_of (reply_to card (hear_at card.cells tsn hsn s.now start)) }
-    ensures buffer { answer.new ≡ buffer_of (reply_to card (hear_at card.cells tsn hsn s.now start)) answer.old }
+    ensures outcome { result ≡ outcome_of (reply_to card (hear_at card.cells packet.tsn packet.hsn s.now packet.start)) }
+    ensures buffer { answer.new ≡ buffer_of (reply_to card (hear_at card.cells packet.tsn packet.hsn s.now packet.start)) answer.old }
 {
-    let p = payload::parse(s, start);
-    if is_manager(tsn, hsn) {
-        return hear_manager(card, s, answer, tsn, hsn, p);
+    let p = payload::parse(s, packet.start);
+    if is_manager(packet) {
+        return hear_manager(card, s, answer, packet, p);
     }
-    if is_session(card.cells.session, tsn, hsn) {
+    if is_session(card.cells.session, packet) {
         let j = judge::judge_session(card.cells, s, p);
-        return settle(card, s, answer, tsn, hsn, j);
+        return settle(card, s, answer, packet, j);
     }
     turned_away(card, 5)
 }
@@ -138,18 +139,11 @@ pub fn command(card: Card, request: &[u8], answer: &mut [u8]) -> Outcome
     if MOST < request.len() {
         return turned_away(card, 3);
     }
-    let Some(opened) = packet::open(request) else {
+    let Some(packet) = packet::open(request) else {
         return turned_away(card, 4);
     };
-    let end = opened.start + opened.len;
-    hear(
-        card,
-        &request[..end],
-        answer,
-        opened.tsn,
-        opened.hsn,
-        opened.start,
-    )
+    let end = packet.start + packet.len;
+    hear(card, &request[..end], answer, packet)
 }
 
 // With these cells, and an open transaction's PINs given up.

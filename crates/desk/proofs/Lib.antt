@@ -2,5 +2,6 @@
 pub mod Written
 pub mod Lines
 pub mod Replied
+pub mod Room
 pub mod Turns
 pub mod Cuts

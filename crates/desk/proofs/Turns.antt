@@ -1,10 +1,13 @@
 -- From each kind of line to the whole turn.
 use Prim.Native.Nat.{ℕ, ◌≤◌, ◌<◌}
-use mathlib.Core.Path.{◌≡◌, refl}
+use mathlib.Core.Path.{◌≡◌, refl, sym, ap, ◌∙◌}
 use mathlib.Core.Bool.{Bool, true, false}
-use mathlib.Core.List.{List, []}
+use mathlib.Core.List.{List, [], ◌++◌, append_assoc}
 use mathlib.Core.Logic.{◌≢◌}
-use lib.ListN.{length}
+use native.Mathlib.Omega.{arith}
+use native.Mathlib.Nat.{zero-add}
+use Rattle.std.proofs.lemmas.List.{drop-append-le, take-append-drop, length-take-le}
+use lib.ListN.{length, take, drop}
 use borrow.Author.Tests.{eq-eqb, ne_eqb, lt-ltb, le-ltb, le-leb, lt-leb}
 use Rattle.token.specs.Bytes.{over}
 use Rattle.std.specs.Prelude.{Ok, Err}
@@ -15,6 +18,16 @@ use Rattle.desk.specs.declared.After.{After}
 use Rattle.desk.specs.Texts.{no_card, why_text}
 use Rattle.desk.specs.Desk.{Said, still, in_hand, answer_to, heard, long_text, turn_of, turn_in, Texted, Turned}
 use Rattle.desk.proofs.Written.{turns}
+use Rattle.desk.proofs.Room.{room-enough}
+
+-- a text in the first n bytes of a buffer is one at its front
+at-front : (n : ℕ) (d t : List ℕ) → n ≤ length d → length t ≤ n → over (take n d) 0 t ++ drop n d ≡ over d 0 t
+unfolding over
+at-front n d t h e =
+    let f = take n d in
+    let k = length t in
+    let g : k ≤ length f = omega (arith, length-take-le n d h) in
+    rw zero-add (append_assoc t (drop k f) (drop n d) ∙ ap (λ (x : List ℕ). t ++ x) (sym (drop-append-le k f (drop n d) g) ∙ ap (λ (x : List ℕ). drop k x) (take-append-drop n d)))
 
 -- nothing is said and nothing changes
 pub passes : (h : Bool) (s d : List ℕ) → Turned (still h s []) d (record { there = h; count = 0 }) s d
@@ -50,15 +63,22 @@ module _ (h : Bool) (s : List ℕ) where
   unread l d y w k e f t = rw (le-ltb _ _ e, ← f) (turns _ d s y h k t refl refl)
 
   -- ---- with the room that is needed, and without
-  module _ (l : List ℕ) (room : ℕ) where
-    pub in-room : {d i y : List ℕ} {r : After} → length s ≡ 1188 → 4117 ≤ room → Turned (turn_of h s l) d r i y → Turned (turn_in room h s l) d r i y
+  module _ (l d : List ℕ) where
+    pub in-room : {f i y : List ℕ} {r : After} → length s ≡ 1188 → 4117 ≤ length d → f ≡ take 4117 d → Turned (turn_of h s l) f r i y
+        → Turned (turn_in (length d) h s l) d r i (y ++ drop 4117 d)
     unfolding turn_in
-    in-room e f t = rw (eq-eqb _ _ e, le-leb _ _ f) t
+    in-room e g w t =
+        rw (eq-eqb _ _ e, le-leb _ _ g) (record {
+          there = t.there;
+          count = t.count;
+          image = t.image;
+          out = rw (t.out, w) (at-front 4117 d _ g (room-enough h s l e));
+        })
 
-    pub short-room : (d : List ℕ) → length s ≡ 1188 → room < 4117 → Turned (turn_in room h s l) d (record { there = h; count = 0 }) s d
+    pub short-room : length s ≡ 1188 → length d < 4117 → Turned (turn_in (length d) h s l) d (record { there = h; count = 0 }) s d
     unfolding turn_in
-    short-room d e f = rw (eq-eqb _ _ e, lt-leb _ _ f) (passes h s d)
+    short-room e f = rw (eq-eqb _ _ e, lt-leb _ _ f) (passes h s d)
 
-    pub no-image : (d : List ℕ) → length s ≢ 1188 → Turned (turn_in room h s l) d (record { there = h; count = 0 }) s d
+    pub no-image : length s ≢ 1188 → Turned (turn_in (length d) h s l) d (record { there = h; count = 0 }) s d
     unfolding turn_in
-    no-image d e = rw (ne_eqb _ _ e) (passes h s d)
+    no-image e = rw (ne_eqb _ _ e) (passes h s d)

@@ -22,23 +22,28 @@ pub struct After {
     pub count: usize,
 }
 
+// A card's image.
+type Image = [u8; 1188];
+
+// Room for the longest text: up to 20 digits, a blank, and 2,048 bytes in hex.
+type Text = [u8; 4117];
+
 // ---- texts, each at the front of out
 
-fn say(out: &mut [u8], s: &[u8]) -> usize
+fn say(out: &mut Text, s: &[u8]) -> usize
     requires { length s.now ≤ length out.old }
     ensures { Texted out.old s.now result out.new }
 {
     line::put_text(out, 0, s)
 }
 
-fn say_number(out: &mut [u8], v: usize) -> usize
-    requires { 20 ≤ length out.old }
+fn say_number(out: &mut Text, v: usize) -> usize
     ensures { Texted out.old (decimal_of v) result out.new }
 {
     line::put_decimal(out, 0, v as u64)
 }
 
-fn say_hex(out: &mut [u8], s: &[u8]) -> usize
+fn say_hex(out: &mut Text, s: &[u8]) -> usize
     requires { length (hex_text s.now) ≤ length out.old }
     ensures { Texted out.old (hex_text s.now) result out.new }
 {
@@ -46,7 +51,7 @@ fn say_hex(out: &mut [u8], s: &[u8]) -> usize
 }
 
 // A number, a blank, and bytes.
-fn say_reply(out: &mut [u8], number: usize, s: &[u8]) -> usize
+fn say_reply(out: &mut Text, number: usize, s: &[u8]) -> usize
     requires { 21 + length (hex_text s.now) ≤ length out.old }
     ensures { Texted out.old (decimal_of number ++ (32 ∷ hex_text s.now)) result out.new }
 {
@@ -56,8 +61,7 @@ fn say_reply(out: &mut [u8], number: usize, s: &[u8]) -> usize
 }
 
 #[tactic(auto, unfolding(crate::specs::Texts::why_text))]
-fn say_why(out: &mut [u8], w: Why) -> usize
-    requires { 20 ≤ length out.old }
+fn say_why(out: &mut Text, w: Why) -> usize
     ensures { Texted out.old (why_text w) result out.new }
 {
     match w {
@@ -75,8 +79,7 @@ fn say_why(out: &mut [u8], w: Why) -> usize
 // By the number that a media question brings.
 // stays a number: the library's own functions are the ones that C calls
 #[tactic(auto, unfolding(crate::specs::Texts::verdict_text))]
-fn say_verdict(out: &mut [u8], r: usize) -> usize
-    requires { 20 ≤ length out.old }
+fn say_verdict(out: &mut Text, r: usize) -> usize
     ensures { Texted out.old (verdict_text r) result out.new }
 {
     match r {
@@ -95,6 +98,8 @@ fn zeros<const N: usize>() -> [u8; N]
 }
 
 // ---- each kind of line
+// image, there and out stay three parameters: a struct of two borrowed arrays would have a clause for each field's last value, and be no plainer.
+// The bound on a line stays a clause of four: a struct with a ghost field for one fact is no shorter.
 
 // A text of count bytes, with a card in hand.
 fn in_hand(count: usize) -> After
@@ -104,8 +109,7 @@ fn in_hand(count: usize) -> After
 }
 
 // A request, with the answer's buffer.
-fn ask(image: &mut [u8], q: &[u8], answer: &mut [u8], out: &mut [u8]) -> After
-    requires { 4117 ≤ length out.old }
+fn ask(image: &mut Image, q: &[u8], answer: &mut [u8], out: &mut Text) -> After
     ensures { Turned (commanded image.old (length answer.old) q.now) out.old result image.new out.new }
 {
     let r = flamepocket::flamepocket_command(image, q, answer);
@@ -116,8 +120,8 @@ fn ask(image: &mut [u8], q: &[u8], answer: &mut [u8], out: &mut [u8]) -> After
 }
 
 // A request that the line's digits say.
-fn command(image: &mut [u8], l: &[u8], room: usize, at: usize, len: usize, out: &mut [u8]) -> After
-    requires { (4117 ≤ length out.old) × (length l.now ≤ 32768) × (room ≤ 65536) }
+fn command(image: &mut Image, l: &[u8], room: usize, at: usize, len: usize, out: &mut Text) -> After
+    requires { (length l.now ≤ 32768) × (room ≤ 65536) }
     ensures { Turned (commanded image.old room (bytes_at l.now at len)) out.old result image.new out.new }
 {
     let mut bytes: [u8; 16384] = zeros();
@@ -127,8 +131,7 @@ fn command(image: &mut [u8], l: &[u8], room: usize, at: usize, len: usize, out: 
 }
 
 // A new card.
-fn make(image: &mut [u8], there: bool, n: u64, msid: &[u8], out: &mut [u8]) -> After
-    requires { 20 ≤ length out.old }
+fn make(image: &mut Image, there: bool, n: u64, msid: &[u8], out: &mut Text) -> After
     ensures { Turned (new_card there image.old (made n msid.now)) out.old result image.new out.new }
 {
     let r = flamepocket::flamepocket_factory(image, n, msid);
@@ -140,15 +143,15 @@ fn make(image: &mut [u8], there: bool, n: u64, msid: &[u8], out: &mut [u8]) -> A
 
 // With the MSID that the line's digits say.
 fn new(
-    image: &mut [u8],
+    image: &mut Image,
     there: bool,
     l: &[u8],
     n: u64,
     at: usize,
     len: usize,
-    out: &mut [u8],
+    out: &mut Text,
 ) -> After
-    requires { (20 ≤ length out.old) × (length l.now ≤ 32768) }
+    requires { length l.now ≤ 32768 }
     ensures { Turned (new_card there image.old (made n (bytes_at l.now at len))) out.old result image.new out.new }
 {
     let mut bytes: [u8; 16384] = zeros();
@@ -157,8 +160,8 @@ fn new(
 }
 
 // The card of an image that the line's digits say, where it is sound.
-fn load(image: &mut [u8], there: bool, l: &[u8], at: usize, len: usize, out: &mut [u8]) -> After
-    requires { (20 ≤ length out.old) × (length l.now ≤ 32768) × (length image.old ≡ 1188) }
+fn load(image: &mut Image, there: bool, l: &[u8], at: usize, len: usize, out: &mut Text) -> After
+    requires { length l.now ≤ 32768 }
     ensures { Turned (loaded there image.old (bytes_at l.now at len)) out.old result image.new out.new }
 {
     let mut bytes: [u8; 16384] = zeros();
@@ -171,32 +174,28 @@ fn load(image: &mut [u8], there: bool, l: &[u8], at: usize, len: usize, out: &mu
     in_hand(say(out, b"0"))
 }
 
-fn power(image: &mut [u8], out: &mut [u8]) -> After
-    requires { 20 ≤ length out.old }
+fn power(image: &mut Image, out: &mut Text) -> After
     ensures { Turned (numbered image.old (on_image image.old (λ k. outcome_of (Step·power k)))) out.old result image.new out.new }
 {
     let r = flamepocket::flamepocket_power_cycle(image);
     in_hand(say_number(out, r))
 }
 
-fn reset(image: &mut [u8], out: &mut [u8]) -> After
-    requires { 20 ≤ length out.old }
+fn reset(image: &mut Image, out: &mut Text) -> After
     ensures { Turned (numbered image.old (on_image image.old (λ k. outcome_of (Step·reset k)))) out.old result image.new out.new }
 {
     let r = flamepocket::flamepocket_tper_reset(image);
     in_hand(say_number(out, r))
 }
 
-fn media(image: &[u8], write: bool, start: u64, count: u64, out: &mut [u8]) -> usize
-    requires { 20 ≤ length out.old }
+fn media(image: &Image, write: bool, start: u64, count: u64, out: &mut Text) -> usize
     ensures { Texted out.old (verdict_text (media_on image.now (direction write) start count)) result out.new }
 {
     let r = flamepocket::flamepocket_media(image, u8::from(write), start, count);
     say_verdict(out, r)
 }
 
-fn no_card(out: &mut [u8]) -> After
-    requires { 20 ≤ length out.old }
+fn no_card(out: &mut Text) -> After
     ensures { (result.there ≡ false) × Texted out.old no_card result.count out.new }
 {
     let count = say(out, b"? no card");
@@ -208,8 +207,8 @@ fn no_card(out: &mut [u8]) -> After
 
 // By what the line says; before there is a card, every question to it is answered so.
 // stays an if in each arm: under one guard for all of them the arms are reached on two ways, and each proof splits
-fn answer(image: &mut [u8], there: bool, l: &[u8], q: Line, out: &mut [u8]) -> After
-    requires { (4117 ≤ length out.old) × (length l.now ≤ 32768) × (length image.old ≡ 1188) × Roomy q }
+fn answer(image: &mut Image, there: bool, l: &[u8], q: Line, out: &mut Text) -> After
+    requires { (length l.now ≤ 32768) × Roomy q }
     ensures { Turned (answer_to there image.old l.now q) out.old result image.new out.new }
 {
     match q {
@@ -259,8 +258,7 @@ fn answer(image: &mut [u8], there: bool, l: &[u8], q: Line, out: &mut [u8]) -> A
 }
 
 // A line that is too long is not read, but a remark stays one.
-fn too_long(there: bool, l: &[u8], out: &mut [u8]) -> After
-    requires { 20 ≤ length out.old }
+fn too_long(there: bool, l: &[u8], out: &mut Text) -> After
     ensures { (result.there ≡ there) × Texted out.old (long_text l.now) result.count out.new }
 {
     if line::is_remark(l) {
@@ -270,8 +268,7 @@ fn too_long(there: bool, l: &[u8], out: &mut [u8]) -> After
     After { there, count }
 }
 
-fn hear(image: &mut [u8], there: bool, l: &[u8], out: &mut [u8]) -> After
-    requires { (4117 ≤ length out.old) × (length image.old ≡ 1188) }
+fn hear(image: &mut Image, there: bool, l: &[u8], out: &mut Text) -> After
     ensures { Turned (turn_of there image.old l.now) out.old result image.new out.new }
 {
     if 32768 < l.len() {
@@ -290,8 +287,11 @@ fn hear(image: &mut [u8], there: bool, l: &[u8], out: &mut [u8]) -> After
 pub fn turn(image: &mut [u8], there: bool, l: &[u8], out: &mut [u8]) -> After
     ensures { Turned (turn_in (length out.old) there image.old l.now) out.old result image.new out.new }
 {
-    if image.len() != 1188 || out.len() < 4117 {
+    let Some(image) = image.as_mut_array() else {
         return After { there, count: 0 };
-    }
+    };
+    let Some(out) = out.first_chunk_mut() else {
+        return After { there, count: 0 };
+    };
     hear(image, there, l, out)
 }

@@ -87,7 +87,7 @@ fn with_live(v: Vault, live: [Secret; PINS]) -> Vault
     Vault { live, ..v }
 }
 
-// With the PIN of a row put anew.
+// With the PIN of a row put anew. As in apply, the store stands here: of `get_mut` the library does not say what was written.
 fn put(mut v: Vault, r: usize, x: Secret) -> Vault
     ensures { result ≡ with_live v (set v.live r x) }
 {

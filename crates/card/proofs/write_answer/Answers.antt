@@ -18,7 +18,7 @@ returns-then-is_broke c =
     let f = c.frame in
     let w = c.answer-n in
     let a = c.args in
-    let all = framed-broke a.c a.tsn a.hsn a.d _ _ _ (sym c.is_broke.ensures ∙ c.if-is_broke.true)
+    let all = framed-broke a.c a.packet.tsn a.packet.hsn a.d _ _ _ (sym c.is_broke.ensures ∙ c.if-is_broke.true)
     (written a.c a.d _ 0 0 _ _ _ _ (printed ((goal.at.returns-then-is_broke c).Start)) (room ((goal.at.returns-then-is_broke c).Start)) w.ensures.count w.ensures.buffer f.ensures.count f.ensures.buffer) in record { count = all.0; buffer = all.1 }
 
 pub returns : goal.returns
@@ -26,5 +26,5 @@ returns c =
     let f = c.frame-2 in
     let w = c.answer-n in
     let a = c.args in
-    let all = framed-else a.c a.tsn a.hsn a.d _ _ _ (sym c.is_broke.ensures ∙ c.if-is_broke.false)
-    (written a.c a.d _ a.tsn.0 a.hsn.0 _ _ _ _ (printed ((goal.at.returns c).Start)) (room ((goal.at.returns c).Start)) w.ensures.count w.ensures.buffer f.ensures.count f.ensures.buffer) in record { count = all.0; buffer = all.1 }
+    let all = framed-else a.c a.packet.tsn a.packet.hsn a.d _ _ _ (sym c.is_broke.ensures ∙ c.if-is_broke.false)
+    (written a.c a.d _ a.packet.tsn.0 a.packet.hsn.0 _ _ _ _ (printed ((goal.at.returns c).Start)) (room ((goal.at.returns c).Start)) w.ensures.count w.ensures.buffer f.ensures.count f.ensures.buffer) in record { count = all.0; buffer = all.1 }

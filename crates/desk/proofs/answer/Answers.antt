@@ -7,7 +7,7 @@ use borrow.Author.Rules.{rules}
 use Rattle.desk.proofs.answer.Goals as goal
 
 pub command-requires : goal.command-requires
-command-requires c = (search rules, search rules, rw c.in-Command.is at c.requires.3)
+command-requires c = (search rules, rw c.in-Command.is at c.requires.1)
 
 pub returns-then-there : goal.returns-then-there
 unfolding answer_to

@@ -8,7 +8,7 @@ pub returns-then-l-gt32768 : goal.returns-then-l-gt32768
 returns-then-l-gt32768 c = long-turn _ _ _ _ _ _ (omega arith) c.too_long.ensures
 
 pub answer-requires : goal.answer-requires
-answer-requires c = (search rules, search rules, search rules, roomy _ _ c.in-Ok.ensures)
+answer-requires c = (search rules, roomy _ _ c.in-Ok.ensures)
 
 pub returns-in-Ok : goal.returns-in-Ok
 returns-in-Ok c = short-turn _ _ _ _ (omega arith) c.in-Ok.ensures c.answer.ensures
