@@ -1,6 +1,5 @@
 // Requests as a host writes them: the payload from byte 56 on, and the envelope around it.
 use packet::{Hsn, Tsn};
-use token::PutError;
 
 pub(crate) const ADMIN_SP: u64 = 0x0000020500000001;
 
@@ -39,26 +38,21 @@ const AUTHENTICATE: u64 = 0x000000060000001c;
 // Where the payload begins.
 const HEADER: usize = 56;
 
-// Where a writer came to, or where it was if it refused.
-fn end(p: Result<usize, PutError>, at: usize) -> usize {
-    p.unwrap_or(at)
-}
-
-// A field of n bytes, whatever stands there.
+// A field of n bytes, whatever stands there: where it ends, or where it was to begin if the writer refused. The others are alike.
 pub(crate) fn field(out: &mut [u8], at: usize, n: usize, v: u64) -> usize {
-    end(token::put_number(out, at, n, v), at)
+    token::put_number(out, at, n, v).unwrap_or(at)
 }
 
 fn int(out: &mut [u8], at: usize, v: u64) -> usize {
-    end(token::put_int(out, at, v), at)
+    token::put_int(out, at, v).unwrap_or(at)
 }
 
 fn bytes(out: &mut [u8], at: usize, s: &[u8]) -> usize {
-    end(token::put_bytes(out, at, s), at)
+    token::put_bytes(out, at, s).unwrap_or(at)
 }
 
 fn control(out: &mut [u8], at: usize, code: u8) -> usize {
-    end(token::put_control(out, at, code), at)
+    token::put_control(out, at, code).unwrap_or(at)
 }
 
 fn uid(out: &mut [u8], at: usize, v: u64) -> usize {
@@ -180,5 +174,5 @@ pub(crate) fn pair(out: &mut [u8], code: u8, v: u64) -> usize {
 
 // The envelope around a payload of n bytes; the whole length.
 pub(crate) fn sealed(out: &mut [u8], tsn: Tsn, hsn: Hsn, n: usize) -> usize {
-    end(packet::seal(out, tsn, hsn, n), 0)
+    packet::seal(out, tsn, hsn, n).unwrap_or(0)
 }

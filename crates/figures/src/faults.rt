@@ -46,7 +46,7 @@ fn whole_row(rt: &impl Print, card: Card) -> io::Result<Card> {
 
 fn tries(rt: &impl Print) -> io::Result<()> {
     println!(rt; "Tries not rolled back with the transaction")?;
-    let a = host::as_sid(rt, host::factory(1000000))?;
+    let a = host::as_sid(rt, host::factory())?;
     let b = host::begins(rt, a)?;
     let c = host::proves(
         rt,
@@ -64,7 +64,7 @@ fn tries(rt: &impl Print) -> io::Result<()> {
 
 fn hidden(rt: &impl Print) -> io::Result<()> {
     println!(rt; "A hidden column left out of Get, which is no refusal")?;
-    let a = host::as_sid(rt, host::factory(1000000))?;
+    let a = host::as_sid(rt, host::factory())?;
     let b = host::gets(rt, "column 3 of C_PIN_SID, the PIN", a, ask::PIN_SID, 3, 3)?;
     let c = host::gets(rt, "columns 0 to 7 of C_PIN_SID", b, ask::PIN_SID, 0, 7)?;
     host::gets(rt, "column 3 of C_PIN_MSID", c, ask::PIN_MSID, 3, 3)?;
@@ -73,7 +73,7 @@ fn hidden(rt: &impl Print) -> io::Result<()> {
 
 pub(crate) fn run(rt: &impl Print) -> io::Result<()> {
     println!(rt; "Admin1 again")?;
-    let a = wrap(rt, rows::placed(rt)?)?;
+    let a = wrap(rt, rows::placed(rt, host::factory())?)?;
     whole_row(rt, a)?;
     tries(rt)?;
     hidden(rt)

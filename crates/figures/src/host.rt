@@ -1,4 +1,5 @@
 // A host: what it asks, on the open session or on 0, 0 where none is open, and what comes back.
+// `rt, what, card` stay parameters: the label is new at each call, and callers ask one card several questions, for which a struct that holds it would be copied.
 use crate::{ask, say};
 use model::Card;
 use packet::{Hsn, Tsn};
@@ -12,17 +13,15 @@ pub(crate) fn msid() -> [u8; 32] {
     *b"a PIN of thirty-two bytes is one"
 }
 
-// The factory's card with n sectors.
-pub(crate) fn factory(n: u64) -> Card {
-    record::factory(n, &msid()).card
+// The factory's card with 1,000,000 sectors.
+pub(crate) fn factory() -> Card {
+    record::factory(1000000, &msid()).card
 }
 
-// A StartSession with HSN 105 and no options, whole.
-pub(crate) fn request() -> [u8; 96] {
-    let mut q = [0u8; 96];
-    let n = ask::start(&mut q, 105, ask::ADMIN_SP);
-    ask::sealed(&mut q, Tsn(0), Hsn(0), n);
-    q
+// Writes a StartSession with HSN 105 and no options, of 96 bytes whole.
+pub(crate) fn request(q: &mut [u8]) {
+    let n = ask::start(q, 105, ask::ADMIN_SP);
+    ask::sealed(q, Tsn(0), Hsn(0), n);
 }
 
 // Whether s holds the fill from byte first on.
@@ -32,8 +31,7 @@ pub(crate) fn untouched(s: &[u8], first: usize) -> bool {
 
 // The payload of an answer.
 fn payload(rt: &impl Print, answer: &[u8]) -> io::Result<()> {
-    let o = packet::open(answer);
-    match o {
+    match packet::open(answer) {
         Some(p) => {
             print!(rt; ", ")?;
             say::part(rt, answer, p.start, p.len)

@@ -12,7 +12,6 @@ mod packets;
 mod rows;
 mod say;
 mod session;
-mod spoil;
 mod tokens;
 mod unsound;
 mod values;

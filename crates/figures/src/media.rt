@@ -93,8 +93,7 @@ pub(crate) fn run(rt: &impl Print) -> io::Result<()> {
     println!(rt; "Shadow off, range 1 locked for reading")?;
     let off = Mbr {
         enable: false,
-        done: false,
-        done_on_program: false,
+        ..on
     };
     let mut locked = rows();
     locked[1].read_enabled = true;

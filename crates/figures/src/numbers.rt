@@ -4,23 +4,16 @@ use model::Card;
 use packet::{Hsn, Tsn};
 use std::io;
 
-// The good request of 96 bytes, and the fill after it.
-fn longest() -> [u8; 2049] {
-    let mut q = [host::FILL; 2049];
-    let n = ask::start(&mut q, 105, ask::ADMIN_SP);
-    ask::sealed(&mut q, Tsn(0), Hsn(0), n);
-    q
-}
-
 // The number that the request s gets in this buffer, and what became of the buffer.
 fn tells(rt: &impl Print, card: Card, s: &[u8], answer: &mut [u8]) -> io::Result<()> {
     let o = card::command(card, s, answer);
     let (number, count) = (o.number, o.count);
-    print!(rt; "number {number}, {count} bytes")?;
-    if host::untouched(answer, count) {
-        return println!(rt; ", the rest untouched");
-    }
-    println!(rt; ", bytes past them changed")
+    let rest = if host::untouched(answer, count) {
+        "the rest untouched"
+    } else {
+        "bytes past them changed"
+    };
+    println!(rt; "number {number}, {count} bytes, {rest}")
 }
 
 // The same with a buffer of 2,048.
@@ -31,18 +24,14 @@ fn hears(rt: &impl Print, card: Card, s: &[u8]) -> io::Result<()> {
 
 fn rooms(rt: &impl Print, card: Card, s: &[u8]) -> io::Result<()> {
     println!(rt; "Number 2: buffers of 0, 2,047, 2,048 and 4,096 bytes")?;
-    let mut none = [host::FILL; 0];
-    let mut short = [host::FILL; 2047];
-    let mut just = [host::FILL; 2048];
-    let mut more = [host::FILL; 4096];
     print!(rt; "  0: ")?;
-    tells(rt, card, s, &mut none)?;
+    tells(rt, card, s, &mut [host::FILL; 0])?;
     print!(rt; "  2,047: ")?;
-    tells(rt, card, s, &mut short)?;
+    tells(rt, card, s, &mut [host::FILL; 2047])?;
     print!(rt; "  2,048: ")?;
-    tells(rt, card, s, &mut just)?;
+    hears(rt, card, s)?;
     print!(rt; "  4,096: ")?;
-    tells(rt, card, s, &mut more)
+    tells(rt, card, s, &mut [host::FILL; 4096])
 }
 
 // The number that a request gets.
@@ -66,7 +55,8 @@ fn lengths(rt: &impl Print, card: Card, s: &[u8]) -> io::Result<()> {
 
 // The StartSession with the n bytes at at holding v.
 fn field(rt: &impl Print, card: Card, at: usize, n: usize, v: u64) -> io::Result<()> {
-    let mut q = host::request();
+    let mut q = [0; 96];
+    host::request(&mut q);
     ask::field(&mut q, at, n, v);
     print!(rt; "  {v}: ")?;
     hears(rt, card, &q)
@@ -161,7 +151,6 @@ fn reset(rt: &impl Print, card: Card) -> io::Result<()> {
 }
 
 fn lowest(rt: &impl Print, card: Card) -> io::Result<()> {
-    let mut short = [host::FILL; 2047];
     let long = [host::FILL; 2049];
     let junk = [host::FILL; 2048];
     let mut unsound = card;
@@ -169,9 +158,9 @@ fn lowest(rt: &impl Print, card: Card) -> io::Result<()> {
     print!(rt;
         "The lowest number first: 2,049 bytes that are no packet\n  to a record with N 0, with room for 2,047: "
     )?;
-    tells(rt, unsound, &long, &mut short)?;
+    tells(rt, unsound, &long, &mut [host::FILL; 2047])?;
     print!(rt; "  with room for 2,047: ")?;
-    tells(rt, card, &long, &mut short)?;
+    tells(rt, card, &long, &mut [host::FILL; 2047])?;
     print!(rt; "  with room for 2,048: ")?;
     hears(rt, card, &long)?;
     print!(rt; "  one byte less: ")?;
@@ -179,10 +168,12 @@ fn lowest(rt: &impl Print, card: Card) -> io::Result<()> {
 }
 
 pub(crate) fn run(rt: &impl Print) -> io::Result<()> {
-    let card = host::factory(1000000);
-    let good = host::request();
-    let long = longest();
+    let card = host::factory();
+    let mut good = [host::FILL; 96];
+    host::request(&mut good);
     rooms(rt, card, &good)?;
+    let mut long = [host::FILL; 2049];
+    host::request(&mut long);
     println!(rt;
         "Number 3: a good packet of 96 bytes, cut or with bytes beyond, 0 to 2,049 bytes"
     )?;

@@ -5,6 +5,14 @@ use payload::Payload;
 use std::io;
 use token::PutError;
 
+// The payload of a StartSession with HSN 105.
+const START: [u8; 39] =
+    *b"\xf8\xa8\x00\x00\x00\x00\x00\x00\x00\xff\xa8\x00\x00\x00\x00\x00\x00\xff\x02\xf0\x81\x69\xa8\x00\x00\x02\x05\x00\x00\x00\x01\x01\xf1\xf9\xf0\x00\x00\x00\xf1";
+
+// The end of session of TSN 1 and HSN 105.
+pub(crate) const END: [u8; 60] =
+    *b"\x00\x00\x00\x00\x10\x00\x00\x00\x00\x00\x00\x00\x00\x00\x00\x00\x00\x00\x00\x28\x00\x00\x00\x01\x00\x00\x00\x69\x00\x00\x00\x00\x00\x00\x00\x00\x00\x00\x00\x00\x00\x00\x00\x10\x00\x00\x00\x00\x00\x00\x00\x00\x00\x00\x00\x01\xfa\x00\x00\x00";
+
 // What the packet s says.
 fn said(rt: &impl Print, s: &[u8]) -> io::Result<()> {
     match packet::open(s) {
@@ -24,10 +32,6 @@ fn place(out: &mut [u8; 96], s: &[u8]) {
     }
 }
 
-fn seal(out: &mut [u8; 96], tsn: Tsn, hsn: Hsn, n: usize) -> Result<usize, PutError> {
-    packet::seal(out, tsn, hsn, n)
-}
-
 // What the packet of n bytes says, and its bytes.
 fn show(rt: &impl Print, out: &[u8; 96], n: usize) -> io::Result<()> {
     said(rt, out)?;
@@ -40,27 +44,20 @@ fn show(rt: &impl Print, out: &[u8; 96], n: usize) -> io::Result<()> {
 fn sealed(rt: &impl Print, s: &[u8], tsn: Tsn, hsn: Hsn) -> io::Result<()> {
     let mut out = [0u8; 96];
     place(&mut out, s);
-    let p = seal(&mut out, tsn, hsn, s.len());
-    match p {
+    let size = s.len();
+    match packet::seal(&mut out, tsn, hsn, size) {
         Ok(n) => {
-            let size = s.len();
             print!(rt; "  payload {size}, total {n}: ")?;
-            show(rt, &out, n)?;
+            show(rt, &out, n)
         }
-        Err(PutError::Full) => {
-            println!(rt; "  no room")?;
-        }
-        Err(PutError::Outside) => {
-            println!(rt; "  outside the limits")?;
-        }
+        Err(PutError::Full) => println!(rt; "  no room"),
+        Err(PutError::Outside) => println!(rt; "  outside the limits"),
     }
-    Ok(())
 }
 
-// The end of session of TSN 1 and HSN 105 with one byte of it another.
+// The end of session with one byte of it another.
 fn wrong(rt: &impl Print, at: usize, b: u8) -> io::Result<()> {
-    let mut s =
-        *b"\x00\x00\x00\x00\x10\x00\x00\x00\x00\x00\x00\x00\x00\x00\x00\x00\x00\x00\x00\x28\x00\x00\x00\x01\x00\x00\x00\x69\x00\x00\x00\x00\x00\x00\x00\x00\x00\x00\x00\x00\x00\x00\x00\x10\x00\x00\x00\x00\x00\x00\x00\x00\x00\x00\x00\x01\xfa\x00\x00\x00";
+    let mut s = END;
     if at < 60 {
         s[at] = b;
     }
@@ -129,12 +126,7 @@ fn kind(rt: &impl Print, s: &[u8]) -> io::Result<()> {
 
 pub(crate) fn run(rt: &impl Print) -> io::Result<()> {
     println!(rt; "StartSession with HSN 105, its answer with TSN 1, and the end of that session")?;
-    sealed(
-        rt,
-        b"\xf8\xa8\x00\x00\x00\x00\x00\x00\x00\xff\xa8\x00\x00\x00\x00\x00\x00\xff\x02\xf0\x81\x69\xa8\x00\x00\x02\x05\x00\x00\x00\x01\x01\xf1\xf9\xf0\x00\x00\x00\xf1",
-        Tsn(0),
-        Hsn(0),
-    )?;
+    sealed(rt, &START, Tsn(0), Hsn(0))?;
     sealed(
         rt,
         b"\xf8\xa8\x00\x00\x00\x00\x00\x00\x00\xff\xa8\x00\x00\x00\x00\x00\x00\xff\x03\xf0\x81\x69\x01\xf1\xf9\xf0\x00\x00\x00\xf1",
@@ -164,18 +156,10 @@ pub(crate) fn run(rt: &impl Print) -> io::Result<()> {
         b"\x00\x00\x00\x00\x10\x00\x00\x00\x00\x00\x00\x00\x00\x00\x00\x00\xff\xff\xff\xff\x00\x00\x00\x01\x00\x00\x00\x69\x00\x00\x00\x00\x00\x00\x00\x00\x00\x00\x00\x00\xff\xff\xff\xff\x00\x00\x00\x00\x00\x00\x00\x00\xff\xff\xff\xff\xfa\x00\x00\x00",
     )?;
     println!(rt; "The end of session and a StartSession's payload, cut after every byte")?;
-    cut(
-        rt,
-        b"\x00\x00\x00\x00\x10\x00\x00\x00\x00\x00\x00\x00\x00\x00\x00\x00\x00\x00\x00\x28\x00\x00\x00\x01\x00\x00\x00\x69\x00\x00\x00\x00\x00\x00\x00\x00\x00\x00\x00\x00\x00\x00\x00\x10\x00\x00\x00\x00\x00\x00\x00\x00\x00\x00\x00\x01\xfa\x00\x00\x00",
-        opens,
-    )?;
-    cut(
-        rt,
-        b"\xf8\xa8\x00\x00\x00\x00\x00\x00\x00\xff\xa8\x00\x00\x00\x00\x00\x00\xff\x02\xf0\x81\x69\xa8\x00\x00\x02\x05\x00\x00\x00\x01\x01\xf1\xf9\xf0\x00\x00\x00\xf1",
-        parses,
-    )?;
+    cut(rt, &END, opens)?;
+    cut(rt, &START, parses)?;
     let strays = strays(
-        b"\xf8\xa8\x00\x00\x00\x00\x00\x00\x00\xff\xa8\x00\x00\x00\x00\x00\x00\xff\x02\xf0\x81\x69\xa8\x00\x00\x02\x05\x00\x00\x00\x01\x01\xf1\xf9\xf0\x00\x00\x00\xf1",
+        &START,
         b"\x00\x01\x0a\x13\x14\x16\x1f\x20\x21\x22\x23\x24\x25\x26\x27",
     );
     println!(rt; "  of the 15 places between its tokens {strays} take a stray F9\nPayloads")?;
@@ -189,10 +173,7 @@ pub(crate) fn run(rt: &impl Print) -> io::Result<()> {
     kind(rt, b"\xfa\x00")?;
     kind(rt, b"\xfb")?;
     kind(rt, b"")?;
-    kind(
-        rt,
-        b"\xf8\xa8\x00\x00\x00\x00\x00\x00\x00\xff\xa8\x00\x00\x00\x00\x00\x00\xff\x02\xf0\x81\x69\xa8\x00\x00\x02\x05\x00\x00\x00\x01\x01\xf1\xf9\xf0\x00\x00\x00\xf1",
-    )?;
+    kind(rt, &START)?;
     kind(
         rt,
         b"\xf8\xa7\x00\x00\x00\x00\x00\x00\xff\xa8\x00\x00\x00\x00\x00\x00\xff\x02\xf0\xf1\xf9\xf0\x00\x00\x00\xf1",

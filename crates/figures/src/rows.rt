@@ -6,21 +6,15 @@ use std::io;
 // A media question and its answer.
 pub(crate) fn reads(rt: &impl Print, card: Card, start: u64, count: u64) -> io::Result<()> {
     print!(rt; "  a read of {count} at {start}")?;
-    let r = card::media(card, false, start, count);
-    match r {
-        None => {
-            println!(rt; " is asked of an unsound record")?;
-        }
-        Some(v) => {
-            media::said(rt, v)?;
-        }
+    match card::media(card, false, start, count) {
+        None => println!(rt; " is asked of an unsound record"),
+        Some(v) => media::said(rt, v),
     }
-    Ok(())
 }
 
 // Admin1's session with range 1 placed.
-pub(crate) fn placed(rt: &impl Print) -> io::Result<Card> {
-    let a = host::as_admin1(rt, host::factory(1000000))?;
+pub(crate) fn placed(rt: &impl Print, card: Card) -> io::Result<Card> {
+    let a = host::as_admin1(rt, card)?;
     host::spans(rt, "range 1 at 1,000 for 100", a, ask::RANGE1, 1000, 100)
 }
 
@@ -48,7 +42,7 @@ fn shadow(rt: &impl Print, card: Card) -> io::Result<()> {
 
 pub(crate) fn run(rt: &impl Print) -> io::Result<()> {
     println!(rt; "Range 2 beside range 1, through the card")?;
-    let card = beside(rt, placed(rt)?)?;
+    let card = beside(rt, placed(rt, host::factory())?)?;
     println!(rt; "Shadow on, through the card")?;
     shadow(rt, card)
 }

@@ -1,5 +1,5 @@
 // The figures on a session, through the card: a StartSession with HSN 105 and no options, and its end.
-use crate::{ask, host, say};
+use crate::{ask, host, packets, say};
 use model::Card;
 use packet::{Hsn, Tsn};
 use std::io;
@@ -40,16 +40,14 @@ fn opened(rt: &impl Print, card: Card) -> io::Result<Card> {
 }
 
 fn ended(rt: &impl Print, card: Card) -> io::Result<Card> {
-    let q =
-        *b"\x00\x00\x00\x00\x10\x00\x00\x00\x00\x00\x00\x00\x00\x00\x00\x00\x00\x00\x00\x28\x00\x00\x00\x01\x00\x00\x00\x69\x00\x00\x00\x00\x00\x00\x00\x00\x00\x00\x00\x00\x00\x00\x00\x10\x00\x00\x00\x00\x00\x00\x00\x00\x00\x00\x00\x01\xfa\x00\x00\x00";
-    exchange(rt, card, &q)
+    exchange(rt, card, &packets::END)
 }
 
 pub(crate) fn run(rt: &impl Print) -> io::Result<()> {
     println!(rt;
         "The card's own answers: StartSession with HSN 105 and no options, the end of that session, and the end again"
     )?;
-    let a = opened(rt, host::factory(1000000))?;
+    let a = opened(rt, host::factory())?;
     let b = ended(rt, a)?;
     ended(rt, b)?;
     Ok(())

@@ -15,37 +15,34 @@ fn read(rt: &impl Print, s: &[u8]) -> io::Result<()> {
     }
 }
 
-// What a writer answered, and the buffer.
-fn wrote(rt: &impl Print, p: Result<usize, PutError>, buf: &[u8]) -> io::Result<()> {
-    match p {
-        Ok(q) => {
-            say::some(rt, buf, q)?;
-        }
-        Err(PutError::Full) => {
-            print!(rt; "refused for want of room, the buffer is still ")?;
-            say::hex(rt, buf)?;
-        }
-        Err(PutError::Outside) => {
-            print!(rt; "refused as outside the limits, the buffer is still ")?;
-            say::hex(rt, buf)?;
-        }
-    }
-    println!(rt; "")
+// What a writer answers in this buffer, and the buffer.
+fn wrote<F: FnOnce(&mut [u8]) -> Result<usize, PutError>>(
+    rt: &impl Print,
+    buf: &mut [u8],
+    write: F,
+) -> io::Result<()>
+    requires { F.IsAlwaysCallable write }
+{
+    let p = write(&mut *buf);
+    say::wrote(
+        rt,
+        p,
+        buf,
+        "",
+        "refused for want of room, the buffer is still ",
+        "refused as outside the limits, the buffer is still ",
+    )
 }
 
 fn int(rt: &impl Print, v: u64) -> io::Result<()> {
-    let mut buf = [0u8; 9];
     print!(rt; "  {v} is written ")?;
-    let p = token::put_int(&mut buf, 0, v);
-    wrote(rt, p, &buf)
+    wrote(rt, &mut [0; 9], |b| token::put_int(b, 0, v))
 }
 
 fn bytes(rt: &impl Print, s: &[u8]) -> io::Result<()> {
-    let mut buf = [0u8; 40];
     let size = s.len();
     print!(rt; "  {size} bytes are written ")?;
-    let p = token::put_bytes(&mut buf, 0, s);
-    wrote(rt, p, &buf)
+    wrote(rt, &mut [0; 40], |b| token::put_bytes(b, 0, s))
 }
 
 pub(crate) fn run(rt: &impl Print) -> io::Result<()> {
@@ -88,15 +85,10 @@ pub(crate) fn run(rt: &impl Print) -> io::Result<()> {
     bytes(rt, b"fifteen bytes..")?;
     bytes(rt, b"sixteen bytes...")?;
     bytes(rt, b"a PIN of thirty-two bytes is one")?;
-    let mut small = [0u8; 3];
     print!(rt; "  65,536 in three bytes is ")?;
-    let p = token::put_int(&mut small, 0, 65536);
-    wrote(rt, p, &small)?;
+    wrote(rt, &mut [0; 3], |b| token::put_int(b, 0, 65536))?;
     print!(rt; "  65,535 in three bytes is ")?;
-    let q = token::put_int(&mut small, 0, 65535);
-    wrote(rt, q, &small)?;
-    let mut one = [0u8; 1];
+    wrote(rt, &mut [0; 3], |b| token::put_int(b, 0, 65535))?;
     print!(rt; "  the control token F4 is ")?;
-    let r = token::put_control(&mut one, 0, 0xf4);
-    wrote(rt, r, &one)
+    wrote(rt, &mut [0; 1], |b| token::put_control(b, 0, 0xf4))
 }

@@ -2,39 +2,14 @@
 use crate::say;
 use std::io;
 use tape::{Took, TookError};
-use token::PutError;
 
 fn ends(rt: &impl Print, s: &[u8]) -> io::Result<()> {
     print!(rt; "  ")?;
     say::hex(rt, s)?;
-    let e = value::value_at(s, 0, 16);
-    match e {
-        Some(q) => {
-            println!(rt; "is a value of {q} bytes")?;
-        }
-        None => {
-            println!(rt; "is broken")?;
-        }
+    match value::value_at(s, 0, 16) {
+        Some(q) => println!(rt; "is a value of {q} bytes"),
+        None => println!(rt; "is broken"),
     }
-    Ok(())
-}
-
-fn written(rt: &impl Print, p: Result<usize, PutError>, out: &[u8]) -> io::Result<()> {
-    match p {
-        Ok(z) => {
-            print!(rt; "written again as ")?;
-            say::some(rt, out, z)?;
-        }
-        Err(PutError::Full) => {
-            print!(rt; "no room, the buffer is still ")?;
-            say::hex(rt, out)?;
-        }
-        Err(PutError::Outside) => {
-            print!(rt; "no value to write, the buffer is still ")?;
-            say::hex(rt, out)?;
-        }
-    }
-    println!(rt; "")
 }
 
 // From bytes to a tape, and from there to bytes again.
@@ -42,14 +17,20 @@ fn again(rt: &impl Print, s: &[u8], out: &mut [u8]) -> io::Result<()> {
     let mut words = [0u64; 24];
     print!(rt; "  ")?;
     say::hex(rt, s)?;
-    let t = tape::read_value(s, 0, &mut words, 0);
-    match t {
+    match tape::read_value(s, 0, &mut words, 0) {
         Ok(Took { node, .. }) => print!(rt; "takes {node} nodes, ")?,
         Err(TookError::Full) => print!(rt; "has no room on the tape, ")?,
         Err(TookError::Broken) => print!(rt; "is broken, ")?,
     }
     let p = tape::write_value(&words, s, 0, &mut *out, 0);
-    written(rt, p, out)
+    say::wrote(
+        rt,
+        p,
+        out,
+        "written again as ",
+        "no room, the buffer is still ",
+        "no value to write, the buffer is still ",
+    )
 }
 
 pub(crate) fn run(rt: &impl Print) -> io::Result<()> {
