@@ -162,9 +162,9 @@ fn edit_mbr(m: Mbr, e: MbrEdit) -> Mbr
     ensures { result ≡ edited_mbr m e }
 {
     Mbr {
-        enable: e.enable.unwrap_or(m.enable),
-        done: e.done.unwrap_or(m.done),
-        done_on_program: e.done_on_program.unwrap_or(m.done_on_program),
+        enable: ranges::new_flag(m.enable, e.enable),
+        done: ranges::new_flag(m.done, e.done),
+        done_on_program: ranges::new_flag(m.done_on_program, e.done_on_program),
     }
 }
 

@@ -1,7 +1,7 @@
 // Locking ranges: no two share a sector, every sector has one owner, and a transfer passes where no owner is locked.
 #![tactic(auto)]
 
-ghost use Rattle.std.specs.Prelude.{◌≡◌, true, ℕ, ◌+◌, ◌<◌, ◌≤◌, ltb};
+ghost use Rattle.std.specs.Prelude.{◌≡◌, true, ℕ, ◌+◌, ◌<◌, ◌≤◌, ltb, unwrap_or};
 ghost use Rattle.ranges.specs.Decides.{Decides, imp};
 ghost use Rattle.ranges.specs.Row.{Holds, holds_b};
 ghost use Rattle.ranges.specs.Fit.{Apart, Fit};
@@ -100,6 +100,13 @@ pub fn fits(rows: [Row; ROWS], n: u64) -> bool
     ok
 }
 
+// A flag after a Set.
+pub fn new_flag(old: bool, to: Option<bool>) -> bool
+    ensures { result ≡ unwrap_or to old }
+{
+    to.unwrap_or(old)
+}
+
 // The row as it would stand.
 #[tactic(auto, unfolding(crate::specs::Set::edited_row))]
 fn edit_row(r: Row, e: Edit) -> Row
@@ -108,11 +115,11 @@ fn edit_row(r: Row, e: Edit) -> Row
     Row {
         start: e.start.unwrap_or(r.start),
         length: e.length.unwrap_or(r.length),
-        read_enabled: e.read_enabled.unwrap_or(r.read_enabled),
-        write_enabled: e.write_enabled.unwrap_or(r.write_enabled),
-        read_locked: e.read_locked.unwrap_or(r.read_locked),
-        write_locked: e.write_locked.unwrap_or(r.write_locked),
-        lock_on_program: e.lock_on_program.unwrap_or(r.lock_on_program),
+        read_enabled: new_flag(r.read_enabled, e.read_enabled),
+        write_enabled: new_flag(r.write_enabled, e.write_enabled),
+        read_locked: new_flag(r.read_locked, e.read_locked),
+        write_locked: new_flag(r.write_locked, e.write_locked),
+        lock_on_program: new_flag(r.lock_on_program, e.lock_on_program),
     }
 }
 

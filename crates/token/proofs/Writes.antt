@@ -31,7 +31,11 @@ module _ (d bs : List ℕ) (at : ℕ) (fits : at + length bs ≤ length d) where
   unfolding over
   over-length = rw length-append (omega (arith, front_length, length-drop (at + length bs) d))
 
-  -- what stands from them on
+  -- what stands before them, and what stands from them on
+  pub over-take : take at (over d at bs) ≡ take at d
+  unfolding over
+  over-take = rw append_assoc (take_at (take at d) (bs ++ drop (at + length bs) d) at (length-take-le at d (omega arith)))
+
   pub over-drop : drop at (over d at bs) ≡ bs ++ drop (at + length bs) d
   unfolding over
   over-drop = rw append_assoc (drop_at (take at d) (bs ++ drop (at + length bs) d) at (length-take-le at d (omega arith)))

@@ -3,6 +3,7 @@ pub mod Tokens
 pub mod Nodes
 pub mod Held
 pub mod Values
+pub mod Places
 pub mod Sources
 pub mod Inside
 pub mod Moved

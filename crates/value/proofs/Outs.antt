@@ -4,6 +4,7 @@ use mathlib.Core.Path.{◌≡◌, refl, sym, ap, ◌∙◌}
 use mathlib.Core.Bool.{Bool, true, false, cond}
 use native.Mathlib.Omega.{arith}
 use lib.Dec.{eqb}
+use borrow.Author.Tests.{eqb-true}
 use Rattle.token.specs.declared.Token.{Token}
 use Rattle.token.specs.declared.Token.TheVariants as K
 use Rattle.std.specs.Prelude.{Option, Some, None}
@@ -36,6 +37,11 @@ pub end_is : {A : Type 0} (o : Out A) (q : ℕ) → end_of o ≡ Some q → (a :
 unfolding end_of
 end_is (ok a r) q e = (a, ap (ok a) (same_end e))
 end_is bad q e = no_end (sym e)
+
+pub end-not : {A : Type 0} (o : Out A) → end_of o ≡ None → o ≡ bad
+unfolding end_of
+end-not (ok a q) e = no_end e
+end-not bad e = refl
 
 -- what is read, if it is, ends past p and not past n, and P says more of it
 abbrev pub Ends : {A : Type 0} → (ℕ → ℕ → A → Type 0) → ℕ → ℕ → Out A → Type 0
@@ -103,6 +109,12 @@ module _ {A B : Type 0} where
   then-made (ok a q) m = refl
   then-made bad m = refl
 
+  -- what holds of nothing, and of all that it can go on to, holds of it
+  pub then_by : (Q : Out B → Type 0) (o : Out A) (k : A → ℕ → Out B) → Q bad → ((a : A) (q : ℕ) → o ≡ ok a q → Q (k a q)) → Q (then o k)
+  unfolding then
+  then_by Q (ok a q) k z g = g a q refl
+  then_by Q bad k z g = z
+
 pub or-ends : (P : ℕ → ℕ → Values → Type 0) (p n : ℕ) (m : Out (Unit {0})) (o : Out Values) → ((q : ℕ) → P p q none) → Ends Any p n m → Ends P p n o → Ends P p n (end_or m o)
 unfolding end_or
 or-ends P p n (ok u q) o z h g = (h.0, h.1, z q)
@@ -122,6 +134,18 @@ pub or-on : (m : Out (Unit {0})) (o : Out Values) → end_of m ≡ None → end_
 unfolding end_or end_of
 or-on (ok u r) o e = no_end e
 or-on bad o e = refl
+
+pub mark-token : (c : ℕ) (t : Token) (u : Unit {0}) (q : ℕ) → mark_of c t ≡ ok u q → t ≡ K.Control c q
+unfolding mark_of
+mark-token c (K.Int v r) u q e = no_ok e
+mark-token c (K.Bytes b n r) u q e = no_ok e
+mark-token c (K.Control k r) u q e = go (eqb k c) refl tt e
+  where
+    go : (b : Bool) → eqb k c ≡ b → (w : Unit {0}) → cond b (ok w r) bad ≡ ok u q → K.Control k r ≡ K.Control c q
+    go true h w f = let i = eqb-true k c h in let j = same_ok f in cc
+    go false h w f = no_ok f
+mark-token c K.End u q e = no_ok e
+mark-token c K.Broken u q e = no_ok e
 
 -- from what calls answer to what the definitions say
 pub marked : (c : ℕ) {t u : Token} {e d : Option ℕ} → u ≡ t → e ≡ end_of (mark_of c u) → e ≡ d → end_of (mark_of c t) ≡ d
