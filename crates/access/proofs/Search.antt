@@ -1,14 +1,15 @@
 -- A search through the access rows: what the rows before a place say, row by row.
-use Prim.Native.Nat.{ℕ, zero, suc, ◌/◌, ◌%◌, ◌^◌, ◌<◌}
+use Prim.Native.Nat.{ℕ, zero, suc, ◌/◌, ◌%◌, ◌^◌, ◌<◌, ◌≤◌}
 use mathlib.Core.Path.{◌≡◌, refl, sym, ap, ◌∙◌}
 use mathlib.Core.Bool.{Bool, true, false, ◌&&◌, ◌||◌, cond}
 use Rattle.std.proofs.Math.Bool.{or_comm, or_assoc}
 use mathlib.Core.List.{List, [], ◌∷◌}
-use native.Mathlib.Nat.{mod-lt, zero-div}
+use native.Mathlib.Nat.{div-eq_of_lt, mod-lt, zero-div}
 use native.Mathlib.Omega.{arith}
 use lib.Bits.{bit_or, or_shr, or_mod}
 use lib.Dec.{eqb}
 use lib.ListN.{length, get_or, take}
+use lib.Pow.{pow_mono}
 use Rattle.model.specs.declared.Access.{Access}
 use Rattle.model.specs.declared.Session.{Session}
 use Rattle.model.specs.Access.{access_rows, some_row, is_for, holds, has_column}
@@ -34,6 +35,12 @@ digit_or (suc (suc p)) q h k = absurd (omega arith)
 
 or-column : (a b c : ℕ) → has_column (bit_or a b) c ≡ has_column a c || has_column b c
 or-column a b c = rw (or_shr a b c, or_mod (a / 2 ^ c) (b / 2 ^ c) 1) (digit_or _ _ (mod-lt (a / 2 ^ c) (omega arith)) (mod-lt (b / 2 ^ c) (omega arith)))
+
+-- no column past the last bit
+pub past_columns : (m c : ℕ) → m < 2 ^ 32 → 32 ≤ c → has_column m c ≡ false
+past_columns m c h k =
+    let past : m < 2 ^ c = omega (arith, pow_mono {i = 32} {j = c} (omega arith)) in
+    rw (div-eq_of_lt past)
 
 -- the word of some rows: one is for the pair, one of these holds, and the columns of those that hold
 pub record Says (s : Session) (k own m : ℕ) (l : List Access) (f : Found) : Type 0 where

@@ -516,6 +516,7 @@ fn class_holds(s: Session, row: usize, who: u8) -> bool
 }
 
 // Whether the set has column c.
+#[tactic(auto, using(crate::proofs::Search::past_columns))]
 pub fn has_column(columns: u32, c: u8) -> bool
     ensures { result ≡ has_column columns c }
 {
