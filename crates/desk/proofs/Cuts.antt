@@ -1,16 +1,20 @@
 -- What is kept of a line, where there is room and where there is none.
 use Prim.Native.Nat.{ℕ, zero, suc, ◌+◌, ◌-◌, ◌≤◌, ◌<◌}
 use mathlib.Core.Path.{◌≡◌, refl, sym, ap, ◌∙◌}
-use mathlib.Core.Bool.{Bool, true, false, cond}
+use mathlib.Core.Bool.{Bool, true, false, cond, not}
 use mathlib.Core.List.{List, [], ◌∷◌, ◌++◌, append-nil}
 use native.Mathlib.Omega.{arith}
 use native.Mathlib.Nat.{add-zero, zero-add}
-use lib.ListN.{length, take, length-take, length-append, take-append-drop}
+use Rattle.std.proofs.Common.{Option, None, Some, unwrap_or}
+use Rattle.std.specs.Option.{MatchOption}
+use Rattle.std.proofs.lemmas.List.Sums.{prefix_len_is}
+use lib.ListN.{length, get_or, take, length-take, length-append, take-append-drop}
 use Rattle.token.specs.Bytes.{over}
 use Rattle.token.specs.Write.{put_all}
 use Rattle.token.proofs.Writes.{over-length, over-over}
 use Rattle.line.specs.Words.{first_of}
 use Rattle.line.specs.Write.{put_end}
+use Rattle.line.proofs.Walks.{first_is}
 use Rattle.desk.proofs.Written.{put-there}
 use Rattle.desk.specs.Cut.{is_feed, line_end, kept_end, kept, Pieces}
 
@@ -30,6 +34,16 @@ unfolding kept_end kept
 full d s len h =
     let z : length d - len ≡ 0 = omega arith in
     rw z (omega arith, over_none d len)
+
+-- what a search from the place a on found is the first feed, where no place lies before a
+pub found-first : (s : List ℕ) (a : ℕ) (r : Option ℕ)
+    → MatchOption r ((k : ℕ) → a ≤ k → k < length s → is_feed (get_or s k 0) ≡ false) (λ i. (a ≤ i) × (i < length s) × (is_feed (get_or s i 0) ≡ true) × ((k : ℕ) → a ≤ k → k < i → is_feed (get_or s k 0) ≡ false))
+    → ((k : ℕ) → k < length s → a ≤ k) → line_end s ≡ unwrap_or r (length s)
+found-first s a None m h =
+    first_is is_feed 0 s ∙ zero-add _ ∙ prefix_len_is (λ b. not (is_feed b)) s (length s) 0 (omega arith) (λ k l. ap not (m k (h k l) l)) (λ l. absurd (omega arith))
+found-first s a (Some i) m h =
+    let g : i < length s = m.1 in
+    first_is is_feed 0 s ∙ zero-add _ ∙ prefix_len_is (λ b. not (is_feed b)) s i 0 (omega arith) (λ k l. ap not (m.3 k (h k (omega arith)) l)) (λ l. ap not m.2)
 
 -- ---- in pieces
 goes_on : (a b : List ℕ) (p : ℕ) → first_of is_feed p a ≡ p + length a → first_of is_feed p (a ++ b) ≡ first_of is_feed (p + length a) b

@@ -1,12 +1,18 @@
 // Lines are cut from input that comes in pieces: where a line ends, and what is kept of it.
-ghost use Rattle.std.specs.Prelude.{◌≡◌, ◌≤◌, length, take};
+ghost use Rattle.std.specs.Prelude.{◌≡◌, ◌<◌, ◌≤◌, length, take};
 ghost use Rattle.desk.specs.Cut.{line_end, kept_end, kept, Pieces};
 
 // The place of the first line feed of s, or the end of s where there is none.
 pub fn line_end(s: &[u8]) -> usize
     ensures { (result ≡ line_end s.now) × (result ≤ length s.now) }
 {
-    s.iter().position(|b| *b == b'\n').unwrap_or(s.len())
+    (0..s.len())
+        .find(
+            |&i|
+                requires { i < length s.now }
+            { s[i] == b'\n' },
+        )
+        .unwrap_or(s.len())
 }
 
 // The first n bytes of s, or all where it has fewer.
