@@ -50,9 +50,9 @@ module _ (c : Cells) (o : Object) (end first : ℕ) (d : List ℕ) (at k : ℕ) 
   pub still-short : length c.msid ≡ 32 → p + length (rest c o end k) ≤ at + 901
   still-short many = omega (arith, still.0, rest-short c o end first many)
 
-  pub still-more : (set n r : ℕ) (z : List ℕ) → has_column set k ≡ allowed_column c.session o get_method k → Wrote n y p (column set c o k) r z → k < end → p + n ≤ length y → Still c o end first d at (k + 1) z r
-  still-more set n r z a w h f =
-      let e = rest_more set c o end k a h in
+  pub still-more : (set all n r : ℕ) (z : List ℕ) → Wrote n y p (column set c o k) r z → has_column all k ≡ allowed_column c.session o get_method k → set ≡ all → k < end → p + n ≤ length y → Still c o end first d at (k + 1) z r
+  still-more set all n r z w a same h f =
+      let e = rest_more set c o end k (rw same a) h in
       let q = over-over y (column set c o k) p (omega arith) (rest c o end (k + 1)) in
       (omega (arith, still.0, ap length e, length-append (column set c o k) (rest c o end (k + 1))), rw (w.buffer, w.place) (q ∙ rw (← e) still.1))
 

@@ -18,7 +18,7 @@ put_column-p-requires c = omega (arith, still-short _ _ _ _ _ _ _ _ _ c.loop-k.i
 pub loop-k-preserved : goal.loop-k-preserved
 loop-k-preserved c =
     let told = c.look_up-allowed.ensures.columns c.loop-k.k in
-    (still-more _ _ _ _ _ _ _ _ _ c.loop-k.invariant.0 _ 45 _ _ told c.put_column-p.ensures (omega arith) (omega (arith, still-short _ _ _ _ _ _ _ _ _ c.loop-k.invariant.0 (many ((goal.at.loop-k-preserved c).At-loop-k)))), search rules)
+    (still-more _ _ _ _ _ _ _ _ _ c.loop-k.invariant.0 _ _ 45 _ _ c.put_column-p.ensures told (grind arith) (omega arith) (omega (arith, still-short _ _ _ _ _ _ _ _ _ c.loop-k.invariant.0 (many ((goal.at.loop-k-preserved c).At-loop-k)))), search rules)
 
 pub put_byte-requires : goal.put_byte-requires
 put_byte-requires c =
@@ -27,7 +27,7 @@ put_byte-requires c =
     elim c.loop-k-test.branch [
       | else-loop-k-test w ↦ rw (w.out-is, w.p-is) (omega (arith, still-short _ _ _ _ _ _ _ _ _ still msid))
       | then-loop-k-test+else-k-last w ↦
-          let next = still-more _ _ _ _ _ _ _ _ _ still _ 45 _ _ (c.look_up-allowed.ensures.columns c.loop-k.k) w.put_column-p.ensures (omega arith) (omega (arith, still-short _ _ _ _ _ _ _ _ _ still msid)) in
+          let next = still-more _ _ _ _ _ _ _ _ _ still _ _ 45 _ _ w.put_column-p.ensures (c.look_up-allowed.ensures.columns c.loop-k.k) (grind arith) (omega arith) (omega (arith, still-short _ _ _ _ _ _ _ _ _ still msid)) in
           rw (w.out-is, w.p-is) (omega (arith, still-short _ _ _ _ _ _ _ _ _ next msid))
     ]
 
@@ -41,6 +41,6 @@ returns c =
       | else-loop-k-test w ↦
           behind c.put_byte-p.ensures (still-last _ _ _ _ _ _ _ _ _ still 901 _ _ (rw (w.out-is, w.p-is) at c.put_byte.ensures) (omega arith) short) (omega arith)
       | then-loop-k-test+else-k-last w ↦
-          let next = still-more _ _ _ _ _ _ _ _ _ still _ 45 _ _ (c.look_up-allowed.ensures.columns c.loop-k.k) w.put_column-p.ensures (omega arith) (omega (arith, still-short _ _ _ _ _ _ _ _ _ still msid)) in
+          let next = still-more _ _ _ _ _ _ _ _ _ still _ _ 45 _ _ w.put_column-p.ensures (c.look_up-allowed.ensures.columns c.loop-k.k) (grind arith) (omega arith) (omega (arith, still-short _ _ _ _ _ _ _ _ _ still msid)) in
           behind c.put_byte-p.ensures (still-last _ _ _ _ _ _ _ _ _ next 901 _ _ (rw (w.out-is, w.p-is) at c.put_byte.ensures) (omega arith) short) (omega arith)
     ]
