@@ -115,7 +115,10 @@ fn log_out(c: Cells) -> Cells
 pub fn settled_tables(c: Cells) -> Tables
     ensures { result ≡ settled_tables c }
 {
-    if c.undo.live { c.undo.was } else { c.tables }
+    if c.undo.live {
+        return c.undo.was;
+    }
+    c.tables
 }
 
 #[tactic(auto, unfolding(model::specs::Apply::apply))]
@@ -275,9 +278,8 @@ pub fn tper_reset(c: Cells) -> Cells
 pub fn power_cycle(c: Cells) -> Cells
     ensures { result ≡ power_cycle c }
 {
-    Cells {
-        pins: fresh::no_tries(),
-        next: Tsn(1),
-        ..tper_reset(c)
-    }
+    let mut cycled = tper_reset(c);
+    cycled.pins = fresh::no_tries();
+    cycled.next = Tsn(1);
+    cycled
 }
