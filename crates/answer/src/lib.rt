@@ -100,13 +100,15 @@ fn put_pin_cell(out: &mut [u8], at: usize, c: Cells, row: usize, k: u8) -> usize
 fn is_enabled(c: Cells, r: usize) -> bool
     ensures { result ≡ enabled_at c.tables r }
 {
-    c.tables.enabled.get(r).copied().unwrap_or(false)
+    let enabled = c.tables.enabled;
+    enabled.get(r).copied().unwrap_or(false)
 }
 
 fn row_at(c: Cells, k: usize) -> Row
     ensures { result ≡ row_at c.tables.rows k }
 {
-    c.tables.rows.get(k).copied().unwrap_or(Row {
+    let rows = c.tables.rows;
+    rows.get(k).copied().unwrap_or(Row {
         start: 0,
         length: 0,
         read_enabled: false,
