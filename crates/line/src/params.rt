@@ -25,7 +25,7 @@ pub(crate) fn number(s: &[u8], at: usize) -> Result<(u64, usize), Why>
 {
     let (p, e) = words::word(s, at).ok_or(Why::Few)?;
     let w = &s[p..e];
-    if chars::any_past(w, 10) {
+    if chars::any_but_decimal(w) {
         return Err(Why::Number);
     }
     let v = decimal(w)?;
@@ -42,7 +42,7 @@ fn hex(s: &[u8], p: usize, e: usize) -> Result<(usize, usize, usize), Why>
     if w == b"-".as_slice() {
         return Ok((p, 0, e));
     }
-    if chars::any_past(w, 16) {
+    if chars::any_but_hex(w) {
         return Err(Why::Hex);
     }
     if w.len() % 2 != 0 {
