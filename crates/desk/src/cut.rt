@@ -1,5 +1,5 @@
 // Lines are cut from input that comes in pieces: where a line ends, and what is kept of it.
-ghost use Rattle.std.specs.Prelude.{◌≡◌, ◌<◌, ◌≤◌, length, take};
+ghost use Rattle.std.specs.Prelude.{◌≡◌, ◌≤◌, length, take};
 ghost use Rattle.desk.specs.Cut.{line_end, kept_end, kept, Pieces};
 
 // The place of the first line feed of s, or the end of s where there is none.
@@ -7,11 +7,7 @@ pub fn line_end(s: &[u8]) -> usize
     ensures { (result ≡ line_end s.now) × (result ≤ length s.now) }
 {
     (0..s.len())
-        .find(
-            |&i|
-                requires { i < length s.now }
-            { s[i] == b'\n' },
-        )
+        .find(|&i| s.get(i) == Some(&b'\n'))
         .unwrap_or(s.len())
 }
 
