@@ -1,10 +1,11 @@
 -- Where a walk stops, and so where a word lies.
-use Rattle.std.proofs.Common.{ℕ, ◌+◌, ◌-◌, ◌≤◌, ◌<◌, ◌≡◌, ◌∙◌, List, [], ◌∷◌, Bool, true, false, cond, not, arith, length, take, drop, ltb, Option, Some, None, not, unwrap_or, length-drop, ◌⊎◌, ⊎_elim, zero, suc, ◌||◌}
-use Rattle.std.specs.List.{position_or_len, list_any}
-use Rattle.std.proofs.lemmas.Bool.Decides.{nat_tests}
+use Rattle.std.proofs.Common.{ℕ, ◌+◌, ◌-◌, ◌≤◌, ◌<◌, ◌≡◌, ◌∙◌, List, [], ◌∷◌, Bool, true, false, cond, not, arith, length, take, drop, ltb, Option, Some, None, not, unwrap_or, length-drop, ⊎_elim, zero, suc, ◌||◌, ap, sym, get_or}
+use Rattle.std.specs.List.{position_or_len, prefix_len, list_any}
+use Rattle.std.specs.Option.{MatchOption}
 use borrow.Author.Tests.{lt-ltb, le-ltb}
-use Rattle.std.proofs.lemmas.List.{take_all}
-use Rattle.std.proofs.lemmas.List.Sums.{prefix_len-le-length}
+use Rattle.std.proofs.lemmas.List.{get_or-drop}
+use Rattle.std.proofs.lemmas.List.Sums.{prefix_len_is}
+use Rattle.token.proofs.Laws.{lt-or-le}
 use Rattle.line.specs.Words.{blank, mark, first_of, first_at, word_at, part}
 
 -- a walk, in the library's words
@@ -30,44 +31,49 @@ past_any t s p e h k =
     let q : p + (e - p) ≡ e = omega arith in
     rw q at (stops_any t p (drop p s) (e - p) (omega (arith, length-drop p s)))
 
--- the library's answer for it
-abbrev pub Position : (ℕ → Bool) → List ℕ → Option ℕ → Type 0
-Position t l r = r ≡ cond (ltb (position_or_len t l) (length l)) (Some (position_or_len t l)) None
+-- what a search over the places from at on answers
+abbrev pub Found : (ℕ → Bool) → List ℕ → ℕ → Option ℕ → Type 0
+Found t s at r =
+    MatchOption r ((k : ℕ) → at ≤ k → k < length s → t (get_or s k 0) ≡ false) (λ i. (at ≤ i) × (i < length s) × (t (get_or s i 0) ≡ true) × ((k : ℕ) → at ≤ k → k < i → t (get_or s k 0) ≡ false))
 
-position-none : (t : ℕ → Bool) (l : List ℕ) (r : Option ℕ) → Position t l r → r ≡ None → length l ≤ position_or_len t l
-position-none t l r h e = grind (arith, nat_tests)
+-- is where the walk stops
+pub found_at : (t : ℕ → Bool) (s : List ℕ) (at : ℕ) (r : Option ℕ) → at ≤ length s → Found t s at r → first_at t s at ≡ unwrap_or r (length s)
+found_at t s at None h m =
+    let l = length-drop at s in
+    let f = first_is t at (drop at s) in
+    let e : prefix_len (λ x. not (t x)) (drop at s) ≡ length s - at =
+    prefix_len_is (λ x. not (t x)) (drop at s) (length s - at) 0 (omega arith)
+    (λ (k : ℕ) (g : k < length s - at). ap (λ x. not (t x)) (get_or-drop at s k 0) ∙ ap not (m (at + k) (omega arith) (omega arith)))
+    (λ (g : length s - at < length (drop at s)). absurd (omega arith)) in
+    omega (arith, f, e)
+found_at t s at (Some i) h m =
+    let a : at ≤ i = m.0 in
+    let b : i < length s = m.1 in
+    let l = length-drop at s in
+    let f = first_is t at (drop at s) in
+    let q : at + (i - at) ≡ i = omega arith in
+    let e : prefix_len (λ x. not (t x)) (drop at s) ≡ i - at =
+    prefix_len_is (λ x. not (t x)) (drop at s) (i - at) 0 (omega arith)
+    (λ (k : ℕ) (g : k < i - at). ap (λ x. not (t x)) (get_or-drop at s k 0) ∙ ap not (m.3 (at + k) (omega arith) (omega arith)))
+    (λ g. ap (λ x. not (t x)) (get_or-drop at s (i - at) 0) ∙ ap (λ x. not (t (get_or s x 0))) q ∙ ap not m.2) in
+    omega (arith, f, e)
 
-position-some : (t : ℕ → Bool) (l : List ℕ) (r : Option ℕ) (n : ℕ) → Position t l r → r ≡ Some n → (n ≡ position_or_len t l) × (n < length l)
-position-some t l r n h e = grind (arith, nat_tests)
-
-pub position-else : (t : ℕ → Bool) (l : List ℕ) (r : Option ℕ) (n : ℕ) → Position t l r → n ≡ length l → unwrap_or r n ≡ position_or_len t l
-position-else t l r n h e = grind (arith, nat_tests, prefix_len-le-length (λ x. not (t x)) l)
-
--- of the next word from at on: what the code takes from at on, and from its first mark on
+-- so the next word from at on lies there
 module _ (s : List ℕ) (at : ℕ) where
-  pub word-past : (length s < at) ⊎ (length s < length s) → word_at s at ≡ None
+  pub word-none : (r : Option ℕ) (p : ℕ) → Found mark s at r → p ≡ unwrap_or r (length s) → length s ≤ p → word_at s at ≡ None
   unfolding word_at
-  word-past h =
-      let k : length s < at = ⊎_elim (λ (a : length s < at). a) (λ (b : length s < length s). absurd (omega arith)) h in
-      rw (le-ltb (first_at mark s at) (length s) (omega (arith, first_is mark at (drop at s))))
+  word-none r p m e k =
+      ⊎_elim
+      (λ (h : length s < at). rw (le-ltb (first_at mark s at) (length s) (omega (arith, first_is mark at (drop at s)))))
+      (λ (h : at ≤ length s). rw (le-ltb (first_at mark s at) (length s) (omega (arith, e, found_at mark s at r h m))))
+      (lt-or-le (length s) at)
 
-  module _ (r : List ℕ) (f : r ≡ take (length s - at) (drop at s)) where
-    from-at : r ≡ drop at s
-    from-at = f ∙ take_all (length s - at) (drop at s) (omega (arith, length-drop at s))
-
-    pub word-none : (o : Option ℕ) → Position mark r o → o ≡ None → word_at s at ≡ None
-    unfolding word_at
-    word-none o h e =
-        let k = position-none mark (drop at s) o (rw from-at at h) e in
-        rw (le-ltb (first_at mark s at) (length s) (omega (arith, first_is mark at (drop at s), length-drop at s)))
-
-    pub word-some : (n : ℕ) (o q : Option ℕ) → Position mark r o → o ≡ Some n → Position blank (take (length s - (at + n)) (drop (at + n) s)) q
-        → word_at s at ≡ Some (at + n, at + n + unwrap_or q (length s - (at + n)))
-    unfolding word_at
-    word-some n o q h e g =
-        let w = position-some mark (drop at s) o n (rw from-at at h) e in
-        let k : first_at mark s at ≡ at + n = omega (arith, first_is mark at (drop at s)) in
-        let l = length-drop at s in
-        let m = length-drop (at + n) s in
-        let v : take (length s - (at + n)) (drop (at + n) s) ≡ drop (at + n) s = take_all (length s - (at + n)) (drop (at + n) s) (omega arith) in
-        rw (k, lt-ltb (at + n) (length s) (omega arith), first_is blank (at + n) (drop (at + n) s), position-else blank (drop (at + n) s) q (length s - (at + n)) (rw v at g) (omega arith))
+  pub word-some : (r q : Option ℕ) (p e : ℕ) → Found mark s at r → p ≡ unwrap_or r (length s) → p < length s → Found blank s p q → e ≡ unwrap_or q (length s)
+      → word_at s at ≡ Some (p, e)
+  unfolding word_at
+  word-some None q p e m u h n v = absurd (omega arith)
+  word-some (Some i) q p e m u h n v =
+      let a : at ≤ i = m.0 in
+      let f : first_at mark s at ≡ p = found_at mark s at (Some i) (omega arith) m ∙ sym u in
+      let g : first_at blank s p ≡ e = found_at blank s p q (omega arith) n ∙ sym v in
+      rw (f, lt-ltb p (length s) h, g)

@@ -14,10 +14,19 @@ pub(crate) fn word(s: &[u8], at: usize) -> Option<(usize, usize)>
     ensures value { result ≡ word_at s.now at }
     ensures inside { IfSome result (λ w. (w.0 < length s.now) × (w.0 ≤ w.1) × (w.1 ≤ length s.now)) }
 {
-    let p = at + s.get(at..)?.iter().position(|b| !is_blank(*b))?;
-    let len = s[p..]
-        .iter()
-        .position(|b| is_blank(*b))
-        .unwrap_or(s.len() - p);
-    Some((p, p + len))
+    let p = (at..s.len())
+        .find(
+            |&i|
+                requires { i < length s.now }
+            { !is_blank(s[i]) },
+        )
+        .unwrap_or(s.len());
+    let e = (p..s.len())
+        .find(
+            |&i|
+                requires { i < length s.now }
+            { is_blank(s[i]) },
+        )
+        .unwrap_or(s.len());
+    if p < s.len() { Some((p, e)) } else { None }
 }
